@@ -1,0 +1,4 @@
+pub mod Spellings
+pub mod Faults
+pub mod Points
+pub mod Cells

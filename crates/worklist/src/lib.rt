@@ -1,0 +1,4 @@
+//! A works' list of names and settings as people type it, and the report on it.
+
+pub mod report;
+pub mod typed;
