@@ -1,1 +1,2 @@
+pub mod Six
 pub mod Figures

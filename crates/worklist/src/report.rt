@@ -1,3 +1,5 @@
+use crate::append::append;
+use crate::proposal::propose;
 use crate::typed::DayCellTyped;
 use crate::typed::Line;
 use crate::typed::PointNameTyped;
@@ -79,13 +81,16 @@ fn names_in<N: Typed>(
             Line::Refused(fault) => {
                 let number = fault.number();
                 let rule = N::rule();
-                out.push_str(format!(heap, "line {at}: refused {number}: {rule}\n")?.as_str())?;
+                append(out, format!(heap, "line {at}: refused {number}: {rule}\n"))?;
             }
             Line::Unread => {
-                out.push_str(format!(
-                    heap,
-                    "line {at}: not read: a name and a setting from 0 to 65535 are wanted\n"
-                )?.as_str())?;
+                append(
+                    out,
+                    format!(
+                        heap,
+                        "line {at}: not read: a name and a setting from 0 to 65535 are wanted\n"
+                    ),
+                )?;
             }
         }
     }
@@ -107,7 +112,10 @@ fn triples_of<N: Typed>(
         let Some((h0, h1, h2)) = triple_of(tables, sizes, &listed.name) else {
             continue;
         };
-        out.push_str(format!(heap, "{name} setting {setting} triple {h0} {h1} {h2}\n")?.as_str())?;
+        append(
+            out,
+            format!(heap, "{name} setting {setting} triple {h0} {h1} {h2}\n"),
+        )?;
         triples.push((h0, h1, h2))?;
     }
     Ok(triples)
@@ -127,7 +135,7 @@ fn first_clash(
     Ok(None)
 }
 
-/// Fills the tables, gives each name its triple, and says whether two names clash.
+/// Fills the tables, gives each name its triple, proposes a way, and says whether two names clash.
 fn hash<N: Typed>(
     heap: Global,
     names: &[Listed<N>],
@@ -140,11 +148,12 @@ fn hash<N: Typed>(
         return refuse(heap, fault, out);
     }
     let triples = triples_of(heap, names, sizes, &tables, out)?;
+    propose(heap, sizes.n(), out)?;
     match first_clash(heap, &triples)? {
         Some((a, b)) => {
             let first = a.saturating_add(1);
             let second = b.saturating_add(1);
-            out.push_str(format!(heap, "names {first} and {second} clash\n")?.as_str())
+            append(out, format!(heap, "names {first} and {second} clash\n"))
         }
         None => out.push_str("no two names clash\n"),
     }
@@ -154,7 +163,7 @@ fn hash<N: Typed>(
 fn refuse(heap: Global, fault: HashFault, out: &mut String) -> Result<(), AllocError> {
     let number = fault.number();
     let meaning = meaning(fault);
-    out.push_str(format!(heap, "refused {number}: {meaning}\n")?.as_str())
+    append(out, format!(heap, "refused {number}: {meaning}\n"))
 }
 
 /// The report on a list of one kind.
@@ -162,7 +171,10 @@ fn report_on<N: Typed>(heap: Global, text: &str, header: Header) -> Result<Strin
     let mut out = String::new(heap);
     let names = names_in::<N>(heap, text, &mut out)?;
     let (kind, r, seed, count) = (N::number(), header.r, header.seed, names.len());
-    out.push_str(format!(heap, "kind {kind}, {count} names, r {r}, seed {seed}\n")?.as_str())?;
+    append(
+        &mut out,
+        format!(heap, "kind {kind}, {count} names, r {r}, seed {seed}\n"),
+    )?;
     let sizes = match Sizes::new(count, r) {
         Ok(sizes) => sizes,
         Err(fault) => {

@@ -1,0 +1,3 @@
+//! Examples of heaps, run.
+#[cfg(test)]
+mod heaps;

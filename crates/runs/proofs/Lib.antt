@@ -1,0 +1,15 @@
+pub mod Times
+pub mod Ordering
+pub mod OrderOf
+pub mod Distinct
+pub mod Fits
+pub mod Levels
+pub mod Graph
+pub mod Standing
+pub mod Fitted
+pub mod Values
+pub mod Names
+pub mod Filling
+pub mod Records
+pub mod Sealing
+pub mod Single

@@ -1,0 +1,3 @@
+//! Examples of ways, run.
+#[cfg(test)]
+mod rotations;
