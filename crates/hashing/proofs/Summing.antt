@@ -50,7 +50,3 @@ summed-more t s i b a o h is e low p = record {
 
 pub summed-all : (t s : List ℕ) (i : ℕ) (a : Sums) → length s ≤ i → Summed t s i a → (a .s0 ≡ sum t 0 s) × (a .s1 ≡ sum t 1 s) × (a .s2 ≡ sum t 2 s)
 summed-all t s i a h p = (whole t 0 s i (a .s0) h (p .s0), whole t 1 s i (a .s1) h (p .s1), whole t 2 s i (a .s2) h (p .s2))
-
--- a name tells the byte at a place from 1
-pub at-place : (s : List ℕ) (i : ℕ) → getD (0 ∷ s) (i + 1) 0 ≡ getD s i 0
-at-place s i = rw add-one refl

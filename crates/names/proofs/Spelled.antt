@@ -3,6 +3,7 @@ use mathlib.Core.Path.{_≡_, refl, sym, ap, subst, _∙_}
 use mathlib.Core.Bool.{Bool, true, false, _&&_}
 use mathlib.Core.List.{List, [], _∷_, _++_}
 use Prim.Native.Nat.{ℕ, zero, suc, _+_, _-_, _*_, _/_, _%_, _<_, _≤_}
+use native.Mathlib.Numerals.{add-one}
 use native.Mathlib.Omega.{arith}
 use lib.Dec.{eqb, leb}
 use lib.ListN.{length, getD, take, drop, replicate}
@@ -32,12 +33,13 @@ pub visible-end : (xs : List ℕ) (i : ℕ) → length xs ≤ i → all-visible 
 visible-end xs i l inv = sym (at-drop-all all-visible xs i l) ∙ inv
 
 -- places count from 1
-pub at-place : (xs : List ℕ) (p : ℕ) → 1 ≤ p → getD (0 ∷ xs) p 0 ≡ getD xs (p - 1) 0
-at-place xs zero h = absurd (omega arith)
-at-place xs (suc p) h = let e : suc p - 1 ≡ p = omega arith in ap (λ k. getD xs k 0) (sym e)
+pub at-place : (xs : List ℕ) (i : ℕ) → getD (0 ∷ xs) (i + 1) 0 ≡ getD xs i 0
+at-place xs i = rw add-one refl
 
 pub byte-inside : (xs : List ℕ) (n p : ℕ) → 1 ≤ p → p ≤ n → getD xs (p - 1) 0 ≡ getD (0 ∷ take n xs) p 0
-byte-inside xs n p a b = sym (at-place (take n xs) p a ∙ getD-take n xs (p - 1) 0 (omega arith))
+byte-inside xs n p a b =
+    let e : p - 1 + 1 ≡ p = omega arith in
+    sym (ap (λ k. getD (0 ∷ take n xs) k 0) (sym e) ∙ at-place (take n xs) (p - 1) ∙ getD-take n xs (p - 1) 0 (omega arith))
 
 pub byte-outside : (xs : List ℕ) (p : ℕ) → (1 ≤ p → length xs < p) → 0 ≡ getD (0 ∷ xs) p 0
 byte-outside xs zero h = refl

@@ -10,22 +10,23 @@ use lib.ListN.{length, getD}
 use Rattle.std.proofs.shelf.Tests.{eqb-true, eq-eqb, and-parts, and-from, or-parts, both-ways, cases-eq}
 use Rattle.std.proofs.shelf.Lists.{length-push, getD-push, getD-append-left}
 use Rattle.hashing.specs.Triples.{Triple}
-use Rattle.runs.specs.Lists.{has, repeats, same-bytes, Distinct}
+use Rattle.std.specs.shelf.Text.{sameBytes}
+use Rattle.runs.specs.Lists.{has, repeats, Distinct}
 use Rattle.runs.specs.Runs.{same-triple}
 
-pub same-true : (xs ys : List ℕ) → same-bytes xs ys ≡ true → xs ≡ ys
+pub same-true : (xs ys : List ℕ) → sameBytes xs ys ≡ true → xs ≡ ys
 same-true [] [] h = refl
 same-true [] (y ∷ ys) h = absurd (both-ways false refl h)
 same-true (x ∷ xs) [] h = absurd (both-ways false refl h)
 same-true (x ∷ xs) (y ∷ ys) h =
-    let p = and-parts (eqb x y) (same-bytes xs ys) h in
+    let p = and-parts (eqb x y) (sameBytes xs ys) h in
     let a = eqb-true x y (p .0) in
     let b = same-true xs ys (p .1) in
     λ i. a i ∷ b i
 
-pub same-refl : (xs : List ℕ) → same-bytes xs xs ≡ true
+pub same-refl : (xs : List ℕ) → sameBytes xs xs ≡ true
 same-refl [] = refl
-same-refl (x ∷ xs) = and-from (eqb x x) (same-bytes xs xs) (eq-eqb x x refl) (same-refl xs)
+same-refl (x ∷ xs) = and-from (eqb x x) (sameBytes xs xs) (eq-eqb x x refl) (same-refl xs)
 
 pub triple-refl : (e : Triple) → same-triple e e ≡ true
 triple-refl e =

@@ -12,7 +12,7 @@ use Rattle.std.specs.Iters.{counting}
 use Rattle.std.specs.shelf.Lists.{All}
 use Rattle.std.proofs.shelf.Tests.{eq-eqb, ne-eqb, cases-bool, cases-eq, cond-true, cond-false}
 use Rattle.std.proofs.shelf.Counted.{length-map-counting, getD-map-counting}
-use Rattle.runs.specs.Lists.{same-bytes}
+use Rattle.std.specs.shelf.Text.{sameBytes}
 use Rattle.runs.specs.Plates.{Entry, find, one-look, in-place, by-slot}
 use Rattle.runs.proofs.Distinct.{same-true}
 use Rattle.runs.proofs.Times.{one-le, one-true, one-false, times}
@@ -64,7 +64,7 @@ module _ (h : List ℕ → ℕ) where
     -- a list with no entry in the slot of s has no entry s
     absent : (es : List Entry) → times (h s) (slots-of es) ≡ 0 → find es s ≡ None
     absent [] c = refl
-    absent (e ∷ es) c = elim (cases-bool (same-bytes (e .spelling) s)) [
+    absent (e ∷ es) c = elim (cases-bool (sameBytes (e .spelling) s)) [
       | inl q ↦ absurd (omega (arith, one-true (eqb (h s) (h (e .spelling))) (eq-eqb (h s) (h (e .spelling)) (ap h (sym (same-true (e .spelling) s q))))))
       | inr q ↦ rw q (absent es (omega (arith, one-le (eqb (h s) (h (e .spelling))))))
     ]
@@ -74,9 +74,9 @@ module _ (h : List ℕ → ℕ) where
     found-in-place [] c = absurd (omega arith)
     found-in-place (e ∷ es) c = elim (cases-eq (h (e .spelling)) (h s)) [
       | inl q ↦ rw (eq-eqb (h (e .spelling)) (h s) q)
-          (ap (λ o. cond (same-bytes (e .spelling) s) (Some (e .setting)) o)
+          (ap (λ o. cond (sameBytes (e .spelling) s) (Some (e .setting)) o)
           (absent es (omega (arith, one-true (eqb (h s) (h (e .spelling))) (eq-eqb (h s) (h (e .spelling)) (sym q))))))
-      | inr q ↦ elim (cases-bool (same-bytes (e .spelling) s)) [
+      | inr q ↦ elim (cases-bool (sameBytes (e .spelling) s)) [
         | inl t ↦ absurd (q (ap h (same-true (e .spelling) s t)))
         | inr t ↦ rw (t, ne-eqb (h (e .spelling)) (h s) q) (found-in-place es (omega (arith, one-false (eqb (h s) (h (e .spelling))) (ne-eqb (h s) (h (e .spelling)) (λ w. q (sym w))))))
       ]
@@ -86,7 +86,7 @@ module _ (h : List ℕ → ℕ) where
     module _ (f : ℕ → Entry) where
       records-past : (m a : ℕ) → ((k : ℕ) → a ≤ k → k < a + m → h (f k .spelling) ≡ k) → h s < a → find (map f (counting a m)) s ≡ None
       records-past zero a own l = refl
-      records-past (suc m) a own l = elim (cases-bool (same-bytes (f a .spelling) s)) [
+      records-past (suc m) a own l = elim (cases-bool (sameBytes (f a .spelling) s)) [
         | inl t ↦ absurd (omega (arith, own a (omega arith) (omega arith), ap h (same-true (f a .spelling) s t)))
         | inr t ↦ rw t (records-past m (a + 1) (λ k p q. own k (omega arith) (omega arith)) (omega arith))
       ]
@@ -94,8 +94,8 @@ module _ (h : List ℕ → ℕ) where
       pub records-answer : (m a : ℕ) → ((k : ℕ) → a ≤ k → k < a + m → h (f k .spelling) ≡ k) → a ≤ h s → h s < a + m → find (map f (counting a m)) s ≡ one-look (f (h s)) s
       records-answer zero a own l u = absurd (omega arith)
       records-answer (suc m) a own l u = elim (cases-eq a (h s)) [
-        | inl e ↦ ap (λ o. cond (same-bytes (f a .spelling) s) (Some (f a .setting)) o) (records-past m (a + 1) (λ k p q. own k (omega arith) (omega arith)) (omega arith)) ∙ ap (λ k. one-look (f k) s) e
-        | inr e ↦ elim (cases-bool (same-bytes (f a .spelling) s)) [
+        | inl e ↦ ap (λ o. cond (sameBytes (f a .spelling) s) (Some (f a .setting)) o) (records-past m (a + 1) (λ k p q. own k (omega arith) (omega arith)) (omega arith)) ∙ ap (λ k. one-look (f k) s) e
+        | inr e ↦ elim (cases-bool (sameBytes (f a .spelling) s)) [
           | inl t ↦ absurd (e (sym (own a (omega arith) (omega arith)) ∙ ap h (same-true (f a .spelling) s t)))
           | inr t ↦ rw t (records-answer m (a + 1) (λ k p q. own k (omega arith) (omega arith)) (omega arith) (omega arith))
         ]

@@ -13,7 +13,7 @@ use Rattle.std.proofs.shelf.Tests.{cond-true}
 use Rattle.hashing.specs.Generator.{tables}
 use Rattle.hashing.specs.Triples.{triple}
 use Rattle.runs.specs.Fitting.{slot}
-use Rattle.runs.specs.Lists.{same-bytes}
+use Rattle.std.specs.shelf.Text.{sameBytes}
 use Rattle.runs.specs.Runs.{Run}
 use Rattle.runs.specs.Plates.{Entry, Plate, Lawful, slot-of, find, one-look}
 use Rattle.runs.specs.Laws.{Plate-of}
@@ -36,9 +36,9 @@ found-once Spelled p h s d =
     sum s = triple (tables (p .seed)) n (p .r) s .h0 + getD (p .values) (triple (tables (p .seed)) n (p .r) s .h1) 0 + getD (p .values) (triple (tables (p .seed)) n (p .r) s .h2) 0
 
 answer-same : (e f : Entry) → one-look f (e .spelling) ≡ Some (e .setting) → f ≡ e
-answer-same e f h = go (same-bytes (f .spelling) (e .spelling)) refl h
+answer-same e f h = go (sameBytes (f .spelling) (e .spelling)) refl h
   where
-    go : (b : Bool) → same-bytes (f .spelling) (e .spelling) ≡ b → cond b (Some (f .setting)) None ≡ Some (e .setting) → f ≡ e
+    go : (b : Bool) → sameBytes (f .spelling) (e .spelling) ≡ b → cond b (Some (f .setting)) None ≡ Some (e .setting) → f ≡ e
     go false q k = absurd (let z : _≡_ {A = ℕ} 0 1 = cc in omega arith)
     go true q k =
         let a : f .spelling ≡ e .spelling = same-true (f .spelling) (e .spelling) q in
@@ -62,7 +62,7 @@ module _ {N : Type 0} (spelling : N → List ℕ) (m : Run N) (p q : Plate) (hp 
       (ap (λ j. one-look (getD (q .records) j d) (e .spelling)) (sym at) ∙ sym (found-once _ q (hq .lawful) (e .spelling) d) ∙
       hq .finds (e .spelling) ∙ sym (hp .finds (e .spelling)) ∙ found-once _ p (hp .lawful) (e .spelling) d ∙
       ap (λ j. one-look (getD (p .records) j d) (e .spelling)) (hp .lawful .in-slot k d l) ∙
-      cond-true (same-bytes (e .spelling) (e .spelling)) (Some (e .setting)) None (same-refl (e .spelling))))
+      cond-true (sameBytes (e .spelling) (e .spelling)) (Some (e .setting)) None (same-refl (e .spelling))))
     where
       e : Entry
       e = getD (p .records) k d

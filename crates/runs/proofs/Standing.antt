@@ -22,7 +22,8 @@ use Rattle.runs.specs.declared.stage.Stage.{Stage}
 use Rattle.runs.specs.declared.stage.Stage.the-variants.{Open, Mapped, Ordered, Fitted, Sealed}
 use Rattle.runs.specs.declared.fault.PressFault.{PressFault}
 use Rattle.runs.specs.declared.fault.PressFault.the-variants.{WrongStage, TooManyNames, SpellingEntered, WaySize, NoName, VertexCount, Seed, Clash, Unfit, ShortString}
-use Rattle.runs.specs.Lists.{has, repeats, same-bytes, Distinct}
+use Rattle.std.specs.shelf.Text.{sameBytes}
+use Rattle.runs.specs.Lists.{has, repeats, Distinct}
 use Rattle.runs.specs.Fitting.{free}
 use Rattle.runs.specs.Runs.{Run, Call, enter, map-to, order-by, fit, reopen, seal, Lent, rank, is, same-triple, found, count, spellings, triples, graph, vertex-order, earlier, vertex, level-offsets, level-slots, fit-found, string-length, checks, refusal, with-level, accepted, unless-refused, step, beginning, continued, reckoned}
 use Rattle.runs.specs.Laws.{Sound, no-triple}
@@ -116,7 +117,7 @@ module _ {N : Type 0} (spelling : N → List ℕ) where
 
   pub record Enterable (m : Run N) (x : N) : Type 0 where
     pub few : count m < 1024
-    pub new : has same-bytes (spelling x) (spellings spelling (m .names)) ≡ false
+    pub new : has sameBytes (spelling x) (spellings spelling (m .names)) ≡ false
 
   enter-passed : (m : Run N) (l : Lent) (x : N) (v : ℕ) → refusal spelling m (enter l x v) ≡ None → Enterable m x
   enter-passed m l x v ok =
@@ -127,7 +128,7 @@ module _ {N : Type 0} (spelling : N → List ℕ) where
       }
     where
       again : Bool
-      again = has same-bytes (spelling x) (spellings spelling (m .names))
+      again = has sameBytes (spelling x) (spellings spelling (m .names))
 
   map-passed : (m : Run N) (l : Lent) (r seed : ℕ) → refusal spelling m (map-to l r seed) ≡ None → Ranges (count m) r seed (triples spelling (m .names) r seed)
   map-passed m l r seed ok =
@@ -189,7 +190,7 @@ module _ {N : Type 0} (spelling : N → List ℕ) where
     few = omega (arith, length-push (m .names) (x, v), p .few);
     low = all-push (λ y. y .1 < 65536) (m .names) (x, v) (h .low) small;
     spelled = rw (map-push (λ (y : N × ℕ). spelling (y .0)) (m .names) (x, v))
-        (distinct-push [] (spellings spelling (m .names)) (spelling x) (h .spelled) (has-false same-bytes same-refl [] (spelling x) (spellings spelling (m .names)) (p .new)));
+        (distinct-push [] (spellings spelling (m .names)) (spelling x) (h .spelled) (has-false sameBytes same-refl [] (spelling x) (spellings spelling (m .names)) (p .new)));
     at-stage = tt;
   }
 

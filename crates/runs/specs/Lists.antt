@@ -19,12 +19,6 @@ repeats same (x ∷ xs) = has same x xs || repeats same xs
 abbrev pub among : ℕ → List ℕ → Bool
 among v vs = has eqb v vs
 
-abbrev pub same-bytes : List ℕ → List ℕ → Bool
-same-bytes [] [] = true
-same-bytes [] (y ∷ ys) = false
-same-bytes (x ∷ xs) [] = false
-same-bytes (x ∷ xs) (y ∷ ys) = eqb x y && same-bytes xs ys
-
 -- no two places hold one element; d is what is read past the end
 abbrev pub Distinct : {X : Type 0} → X → List X → Type 0
 Distinct d xs = (i j : ℕ) → i < j → j < length xs → getD xs i d ≡ getD xs j d → ⊥

@@ -10,7 +10,7 @@ use Rattle.std.specs.declared.option.Option.the-variants.{Some, None}
 use Rattle.std.specs.Iters.{counting}
 use Rattle.hashing.specs.Generator.{tables}
 use Rattle.hashing.specs.Triples.{triple}
-use Rattle.runs.specs.Lists.{same-bytes}
+use Rattle.std.specs.shelf.Text.{sameBytes}
 use Rattle.runs.specs.Fitting.{slot}
 
 -- a name's spelling with its setting
@@ -45,12 +45,12 @@ pub record Lawful (Spelled : List ℕ → Type 0) (p : Plate) : Type 0 where
 
 -- what one entry answers for some bytes: its setting if they are its spelling, else absent
 abbrev pub one-look : Entry → List ℕ → Option ℕ
-one-look e s = cond (same-bytes (e .spelling) s) (Some (e .setting)) None
+one-look e s = cond (sameBytes (e .spelling) s) (Some (e .setting)) None
 
 -- what entries answer for some bytes: the setting of the first whose spelling they are, else absent
 abbrev pub find : List Entry → List ℕ → Option ℕ
 find [] s = None
-find (e ∷ es) s = cond (same-bytes (e .spelling) s) (Some (e .setting)) (find es s)
+find (e ∷ es) s = cond (sameBytes (e .spelling) s) (Some (e .setting)) (find es s)
 
 -- by a slot for each spelling, the first of some entries in the slot k
 abbrev pub in-place : (List ℕ → ℕ) → ℕ → List Entry → Entry

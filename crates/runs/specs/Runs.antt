@@ -17,7 +17,8 @@ use Rattle.runs.specs.declared.fault.PressFault.{PressFault}
 use Rattle.runs.specs.declared.fault.PressFault.the-variants.{WrongStage, ShortList, TooManyNames, SpellingEntered, WaySize, NoName, VertexCount, Seed, Clash, Unfit, ShortString}
 use Rattle.runs.specs.declared.answer.Answer.{Answer}
 use Rattle.runs.specs.declared.answer.Answer.the-variants as answered
-use Rattle.runs.specs.Lists.{has, repeats, same-bytes}
+use Rattle.std.specs.shelf.Text.{sameBytes}
+use Rattle.runs.specs.Lists.{has, repeats}
 use Rattle.runs.specs.Order.{order}
 use Rattle.runs.specs.Fitting.{slot, level-of, offset, turned, first-fit}
 use Rattle.runs.specs.Plates.{Entry, Plate, by-slot, plate-string}
@@ -152,7 +153,7 @@ module _ {N : Type 0} (spelling : N → List ℕ) where
       unless (is (m .stage) Open) WrongStage ∷
       unless (ample l) ShortList ∷
       unless (ltb (count m) 1024) TooManyNames ∷
-      unless (not (has same-bytes (spelling x) (spellings (m .names)))) SpellingEntered ∷
+      unless (not (has sameBytes (spelling x) (spellings (m .names)))) SpellingEntered ∷
       []
   checks m (map-to l r seed) =
       unless (is (m .stage) Open) WrongStage ∷

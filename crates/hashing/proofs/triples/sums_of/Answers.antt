@@ -1,7 +1,8 @@
 use mathlib.Core.Path.{_≡_, refl, _∙_}
 use native.Mathlib.Omega.{arith}
 use lib.ListN.{length, getD}
-use Rattle.hashing.proofs.Summing.{summed-none, summed-more, summed-all, at-place}
+use Rattle.names.proofs.Spelled.{at-place}
+use Rattle.hashing.proofs.Summing.{summed-none, summed-more, summed-all}
 use Rattle.hashing.proofs.triples.sums_of.Needs as need
 
 pub with-sums-requires : need.with-sums-requires
