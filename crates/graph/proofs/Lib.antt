@@ -1,0 +1,4 @@
+pub mod Latest
+pub mod Built
+pub mod Mapped
+pub mod Clashing

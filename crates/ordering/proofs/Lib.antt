@@ -1,0 +1,5 @@
+pub mod Starts
+pub mod Queues
+pub mod Choosing
+pub mod Gathering
+pub mod Arranging
