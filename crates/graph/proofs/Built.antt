@@ -1,23 +1,22 @@
 -- One more edge.
-use mathlib.Core.Path.{_≡_, refl, sym, ap, ap₂, subst, _∙_}
-use mathlib.Core.Bool.{Bool, true, false, cond, _||_}
-use mathlib.Core.List.{List, [], _∷_, _++_, map}
-use mathlib.Core.Logic.{_⊎_, inl, inr}
-use Prim.Native.Nat.{ℕ, zero, suc, _+_, _*_, _<_, _≤_}
+use mathlib.Core.Path.{_≡_, refl, sym, ap, subst, _∙_}
+use mathlib.Core.Bool.{true, false}
+use mathlib.Core.List.{List, [], _∷_, _++_}
+use mathlib.Core.Logic.{inl, inr}
+use Prim.Native.Nat.{ℕ, _+_, _*_, _<_, _≤_}
 use native.Mathlib.Omega.{arith}
 use native.Mathlib.Numerals.{add-one}
 use lib.Dec.{eqb}
-use lib.ListN.{length, getD, set, take, drop}
-use Rattle.std.specs.shelf.Lists.{All}
+use lib.ListN.{length, getD, set, drop}
 use Rattle.std.proofs.shelf.Tests.{cases-eq, ne-eqb, eq-eqb, or-left, or-right, or-from, cond-true, cond-false}
-use Rattle.std.proofs.shelf.Lists.{length-push, getD-push, getD-set-same, getD-set-other, length-set, length-map, length-take-le, getD-map, map-more, drop-set-lt}
-use Rattle.std.proofs.shelf.Elements.{all-push, all-getD}
+use Rattle.std.proofs.shelf.Lists.{length-push, getD-push, getD-set-same, getD-set-other, length-set, drop-set-lt}
+use Rattle.std.proofs.shelf.Elements.{all-push}
 use Rattle.hashing.specs.Triples.{Triple}
 use Rattle.runs.specs.Order.{touches, degree}
-use Rattle.runs.proofs.Times.{one, one-true, one-false}
+use Rattle.runs.proofs.Times.{one-true, one-false}
 use Rattle.graph.specs.declared.rows.Edge.{Edge}
 use Rattle.graph.specs.declared.rows.Vertex.{Vertex}
-use Rattle.graph.specs.Chains.{nil, of-tuple, Halves, latest, at-vertex, same1, same2, Linked, Headed, Graph, blank, bare, link, row, headed, once-at, twice-at, edge-at}
+use Rattle.graph.specs.Chains.{nil, Halves, Linked, Headed, Graph, blank, bare, link, row, headed, once-at, twice-at, edge-at}
 use Rattle.graph.proofs.Latest.{old-at, head-more, link1-more, link2-more, link1-new, link2-new, degree-push, degree-le}
 
 touches-first : (t : Triple) → touches (t .h1) t ≡ true
@@ -25,13 +24,6 @@ touches-first t = or-left (eqb (t .h1) (t .h1)) (eqb (t .h1) (t .h2)) (eq-eqb (t
 
 touches-second : (t : Triple) → touches (t .h2) t ≡ true
 touches-second t = or-right (eqb (t .h2) (t .h1)) (eqb (t .h2) (t .h2)) (eq-eqb (t .h2) (t .h2) refl)
-
-pub none-yet : (r : ℕ) (edges : List Edge) (vertices : List Vertex) → ((v : ℕ) → v < 2 * r → row vertices v ≡ bare) → Graph [] r edges vertices
-none-yet r edges vertices h = record {
-  halves = tt;
-  edge = λ i l. absurd (omega arith);
-  vertex = λ v l. record { first = ap (λ (x : Vertex). x .first) (h v l); degree = ap (λ (x : Vertex). x .degree) (h v l) };
-}
 
 module _ (es : List Triple) (t : Triple) (r : ℕ) (edges : List Edge) (vertices : List Vertex) (ht : Halves r t) (g : Graph es r edges vertices)
     (lv : 2 * r ≤ length vertices) (le : length es < length edges) where

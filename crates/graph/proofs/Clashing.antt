@@ -1,18 +1,18 @@
 -- Equal triples, found along the chains.
-use mathlib.Core.Path.{_≡_, refl, sym, ap, ap₂, subst, _∙_}
-use mathlib.Core.Bool.{Bool, true, false, cond, _||_, _&&_}
-use mathlib.Core.List.{List, [], _∷_, _++_}
-use mathlib.Core.Logic.{_⊎_, inl, inr}
-use Prim.Native.Nat.{ℕ, zero, suc, _+_, _*_, _-_, _<_, _≤_}
+use mathlib.Core.Path.{_≡_, refl, sym, ap, _∙_}
+use mathlib.Core.Bool.{Bool, true, false, _&&_}
+use mathlib.Core.List.{List, [], _∷_}
+use mathlib.Core.Logic.{inl, inr}
+use Prim.Native.Nat.{ℕ, zero, suc, _-_, _<_, _≤_}
 use native.Mathlib.Omega.{arith}
 use lib.Dec.{eqb}
 use lib.ListN.{length, getD}
-use Rattle.std.proofs.shelf.Tests.{cases-eq, cases-bool, cases-lt, both-ways, eq-eqb, eqb-true, ne-eqb, eqb-false, or-left, or-right, or-from, and-left, and-right, and-parts}
+use Rattle.std.proofs.shelf.Tests.{cases-eq, cases-lt, eq-eqb, eqb-true, ne-eqb, or-left, or-right, or-from, and-left, and-right}
 use Rattle.hashing.specs.Triples.{Triple}
 use Rattle.runs.specs.Lists.{has}
 use Rattle.runs.specs.Runs.{same-triple}
 use Rattle.graph.specs.declared.rows.Edge.{Edge}
-use Rattle.graph.specs.Chains.{nil, of-tuple, latest, same1, Linked, Edges, link, Repeats, clashes}
+use Rattle.graph.specs.Chains.{nil, of-tuple, latest, same1, Edges, link, Repeats, clashes}
 use Rattle.graph.proofs.Latest.{latest-same, latest-le, latest-past, latest-passes}
 
 eqb-sym : (a b : ℕ) → eqb a b ≡ eqb b a

@@ -1,21 +1,21 @@
 -- The last of some numbers that passes, and the degree of a vertex.
-use mathlib.Core.Path.{_≡_, refl, sym, ap, ap₂, subst, _∙_}
+use mathlib.Core.Path.{_≡_, refl, sym, ap, _∙_}
 use mathlib.Core.Bool.{Bool, true, false, cond, _||_}
 use mathlib.Core.List.{List, [], _∷_, _++_}
-use mathlib.Core.Logic.{_⊎_, inl, inr}
-use Prim.Native.Nat.{ℕ, zero, suc, _+_, _*_, _<_, _≤_}
+use mathlib.Core.Logic.{inl, inr}
+use Prim.Native.Nat.{ℕ, zero, suc, _+_, _<_, _≤_}
 use native.Mathlib.Omega.{arith}
 use native.Mathlib.Numerals.{add-one}
 use lib.Dec.{eqb}
 use lib.ListN.{length, getD}
 use Rattle.std.specs.shelf.Lists.{All}
-use Rattle.std.proofs.shelf.Tests.{cases-eq, cases-bool, both-ways, ne-eqb, cond-true, cond-false}
+use Rattle.std.proofs.shelf.Tests.{cases-eq, cases-bool, ne-eqb, cond-true, cond-false}
 use Rattle.std.proofs.shelf.Lists.{length-push, getD-push, getD-append-left}
 use Rattle.std.proofs.shelf.Elements.{all-getD}
 use Rattle.hashing.specs.Triples.{Triple}
 use Rattle.runs.specs.Order.{touches, degree}
 use Rattle.runs.proofs.Times.{one, one-le}
-use Rattle.graph.specs.Chains.{nil, Halves, latest, at-vertex, same1, same2, Linked}
+use Rattle.graph.specs.Chains.{nil, Halves, latest, at-vertex, same1, same2}
 
 pub latest-same : (p q : ℕ → Bool) (k : ℕ) → ((j : ℕ) → j < k → p j ≡ q j) → latest p k ≡ latest q k
 latest-same p q zero h = refl

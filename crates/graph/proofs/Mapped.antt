@@ -1,13 +1,12 @@
 -- The triples of the rows, as they are hashed one by one.
-use mathlib.Core.Path.{_≡_, refl, sym, ap, subst, _∙_}
-use mathlib.Core.Bool.{Bool, true, false, cond, _&&_}
-use mathlib.Core.List.{List, [], _∷_, _++_, map}
-use Prim.Native.Nat.{ℕ, _+_, _*_, _%_, _<_, _≤_}
+use mathlib.Core.Path.{_≡_, sym, ap, subst, _∙_}
+use mathlib.Core.Bool.{true, _&&_}
+use mathlib.Core.List.{List, [], _∷_, _++_}
+use Prim.Native.Nat.{ℕ, _+_, _*_, _<_, _≤_}
 use native.Mathlib.Omega.{arith}
 use native.Mathlib.Nat.{mod-lt}
 use lib.Dec.{leb}
 use lib.ListN.{length, getD, set, take, drop}
-use Rattle.std.specs.declared.option.Option.{Option}
 use Rattle.std.specs.declared.option.Option.the-variants.{Some, None}
 use Rattle.std.proofs.shelf.Tests.{leb-true, le-leb, and-parts, and-from, cond-true}
 use Rattle.std.proofs.shelf.Lists.{length-map, length-take-le, map-more}
@@ -32,9 +31,6 @@ module _ (t : List ℕ) (n r : ℕ) (s : List ℕ) (long : 12288 ≤ length t) (
   hashed-is : hashed t n r s ≡ Some (members (triple t n r s))
   hashed-is = cond-true (leb 12288 (length t) && in-range 1 16 (length s)) (Some (members (triple t n r s))) None
       (and-from (leb 12288 (length t)) (in-range 1 16 (length s)) (le-leb 12288 (length t) long) (and-from (leb 1 (length s)) (leb (length s) 16) (le-leb 1 (length s) some) (le-leb (length s) 16 few)))
-
-  pub hashed-never-none : _≡_ {A = Option (ℕ × ℕ × ℕ)} None (hashed t n r s) → ⊥
-  hashed-never-none e = let f = hashed-is in let z : _≡_ {A = ℕ} 0 1 = cc in omega arith
 
   pub hashed-tuple : (u : ℕ × ℕ × ℕ) → Some u ≡ hashed t n r s → of-tuple u ≡ triple t n r s
   hashed-tuple u e = let f = hashed-is in let z : u ≡ members (triple t n r s) = cc in ap of-tuple z

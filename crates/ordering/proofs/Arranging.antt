@@ -1,20 +1,19 @@
 -- The vertices taken so far are the first of the order.
-use mathlib.Core.Path.{_≡_, refl, sym, ap, ap₂, subst, _∙_}
-use mathlib.Core.Bool.{Bool, true, false, cond, _||_, _&&_, not}
+use mathlib.Core.Path.{_≡_, refl, sym, ap, subst, _∙_}
+use mathlib.Core.Bool.{true, false, _||_}
 use mathlib.Core.List.{List, [], _∷_, _++_}
-use mathlib.Core.Logic.{_⊎_, inl, inr}
-use Prim.Native.Nat.{ℕ, zero, suc, _+_, _*_, _-_, _<_, _≤_}
+use mathlib.Core.Logic.{inl, inr}
+use Prim.Native.Nat.{ℕ, _+_, _*_, _-_, _<_, _≤_}
 use native.Mathlib.Omega.{arith}
 use lib.Dec.{eqb}
 use lib.ListN.{length, getD, set, take, drop}
-use Rattle.std.specs.declared.option.Option.the-variants.{Some, None}
-use Rattle.std.specs.shelf.Lists.{All}
-use Rattle.std.proofs.shelf.Tests.{cases-eq, cases-lt, both-ways, or-from, and-right}
+use Rattle.std.specs.declared.option.Option.the-variants.{Some}
+use Rattle.std.proofs.shelf.Tests.{cases-eq, cases-lt, both-ways, and-right}
 use Rattle.std.proofs.shelf.Lists.{length-push, getD-push, getD-append-left, take-append-le, take-at, take-more-set, length-take-le, getD-drop}
 use Rattle.orders.specs.declared.waiting.Waiting.{Waiting}
 use Rattle.hashing.specs.Triples.{Triple}
 use Rattle.runs.specs.Lists.{among}
-use Rattle.runs.specs.Order.{degree, joined, order, Next, Order-of}
+use Rattle.runs.specs.Order.{degree, joined, order, Next}
 use Rattle.runs.proofs.Times.{among-times, each-once}
 use Rattle.runs.proofs.Ordering.{Lined, lined-push, next-waits}
 use Rattle.runs.proofs.OrderOf.{one-order}
@@ -23,10 +22,9 @@ use Rattle.graph.specs.declared.rows.Vertex.{Vertex}
 use Rattle.graph.specs.declared.rows.Place.{Place}
 use Rattle.graph.specs.declared.rows.Place.the-variants.{Unseen, Waits, At}
 use Rattle.graph.specs.Chains.{bare, Graph, row}
-use Rattle.ordering.specs.Queue.{waiting, Stands, Queued, Replaced, Without, Chosen, Placed, Ordered-graph, Begun, at-place, fresh, times-in}
-use Rattle.ordering.proofs.Queues.{replaced-one, replaced-both}
+use Rattle.ordering.specs.Queue.{waiting, Stands, Queued, Replaced, Chosen, Placed, Ordered-graph, Begun, at-place, fresh}
+use Rattle.ordering.proofs.Queues.{replaced-one}
 use Rattle.ordering.proofs.Choosing.{joined-degree, placed}
-use Rattle.ordering.proofs.Gathering.{graph-kept}
 
 joined-none : (es : List Triple) (u : ℕ) → joined es [] u ≡ false
 joined-none [] u = refl

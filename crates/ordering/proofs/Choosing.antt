@@ -1,17 +1,17 @@
 -- What comes out of the heap, or starts a new part, is next in the order.
-use mathlib.Core.Path.{_≡_, refl, sym, ap, ap₂, subst, _∙_}
-use mathlib.Core.Bool.{Bool, true, false, cond, _||_, _&&_, not}
-use mathlib.Core.List.{List, [], _∷_, _++_, map}
-use mathlib.Core.Logic.{_⊎_, inl, inr}
+use mathlib.Core.Path.{_≡_, refl, sym, ap, subst, _∙_}
+use mathlib.Core.Bool.{Bool, true, false, _||_, _&&_, not}
+use mathlib.Core.List.{List, [], _∷_, _++_}
+use mathlib.Core.Logic.{inl, inr}
 use Prim.Native.Nat.{ℕ, zero, suc, _+_, _*_, _<_, _≤_}
 use native.Mathlib.Omega.{arith}
-use lib.Dec.{eqb, ltb}
-use lib.ListN.{length, getD, set, take, drop}
-use Rattle.std.specs.shelf.Lists.{All, sumBy}
+use lib.Dec.{eqb}
+use lib.ListN.{length, getD, set}
+use Rattle.std.specs.shelf.Lists.{All}
 use Rattle.std.specs.shelf.Sorted.{Shuffled}
 use Rattle.std.specs.declared.option.Option.{Option}
 use Rattle.std.specs.declared.option.Option.the-variants.{Some, None}
-use Rattle.std.proofs.shelf.Tests.{cases-eq, cases-lt, cases-bool, both-ways, eq-eqb, ne-eqb, eqb-true, or-left, or-right, or-cases, or-from, and-from, and-parts, not-true, not-from-false, ltb-false, cond-true, cond-false}
+use Rattle.std.proofs.shelf.Tests.{cases-eq, cases-bool, both-ways, eq-eqb, ne-eqb, or-left, or-right, or-cases, or-from, and-from, and-parts, not-true, not-from-false, ltb-false, cond-true, cond-false}
 use Rattle.std.proofs.shelf.Lists.{length-push, getD-push, getD-append-left}
 use Rattle.std.proofs.shelf.Sums.{sumBy-cons}
 use Rattle.std.proofs.shelf.Sorted.{all-shuffled}
@@ -20,12 +20,12 @@ use Rattle.orders.specs.Sooner.{sooner}
 use Rattle.orders.specs.declared.waiting.Waiting.{Waiting}
 use Rattle.hashing.specs.Triples.{Triple}
 use Rattle.runs.specs.Lists.{among}
-use Rattle.runs.specs.Order.{touches, degree, joins, joined, Best, waits, waits-joined, Next}
-use Rattle.runs.proofs.Times.{one, one-true}
+use Rattle.runs.specs.Order.{touches, degree, joins, joined, waits-joined}
+use Rattle.runs.proofs.Times.{one-true}
 use Rattle.graph.specs.declared.rows.Vertex.{Vertex}
 use Rattle.graph.specs.declared.rows.Place.{Place}
 use Rattle.graph.specs.declared.rows.Place.the-variants.{Unseen, Waits, At}
-use Rattle.graph.specs.Chains.{bare, row}
+use Rattle.graph.specs.Chains.{row}
 use Rattle.ordering.specs.Queue.{is-unseen, waiting, Stands, is-of, times-in, Known, Queued, Weighed, Greatest, degree-at, unseen-at, Without, Chosen, Low, at-place}
 use Rattle.ordering.proofs.Queues.{waiting-is, is-of-same, is-of-other, times-less, unseen-is, moved-there, moved-other}
 

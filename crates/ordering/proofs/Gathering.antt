@@ -1,14 +1,13 @@
 -- A walk along the edges of a vertex meets its neighbours.
-use mathlib.Core.Path.{_≡_, refl, sym, ap, ap₂, subst, _∙_}
-use mathlib.Core.Bool.{Bool, true, false, cond, _||_, _&&_, not}
+use mathlib.Core.Path.{_≡_, refl, sym, ap, _∙_}
+use mathlib.Core.Bool.{Bool, true, false, cond, _||_, _&&_}
 use mathlib.Core.List.{List, [], _∷_, _++_}
-use mathlib.Core.Logic.{_⊎_, inl, inr}
+use mathlib.Core.Logic.{inl, inr}
 use Prim.Native.Nat.{ℕ, zero, suc, _+_, _*_, _-_, _<_, _≤_}
 use native.Mathlib.Omega.{arith}
-use native.Mathlib.Nat.{add-zero}
 use lib.Dec.{eqb, ltb}
-use lib.ListN.{length, getD, take, drop}
-use Rattle.std.proofs.shelf.Tests.{cases-eq, cases-lt, cases-bool, both-ways, eq-eqb, ne-eqb, eqb-true, eqb-false, or-parts, or-from, and-right, lt-ltb, le-ltb, cond-true, cond-false}
+use lib.ListN.{length, getD, drop}
+use Rattle.std.proofs.shelf.Tests.{cases-lt, eq-eqb, ne-eqb, eqb-true, eqb-false, or-parts, or-from, and-right, lt-ltb, le-ltb, cond-true, cond-false}
 use Rattle.std.proofs.shelf.Lists.{drop-more, drop-all}
 use Rattle.std.proofs.shelf.Elements.{all-getD}
 use Rattle.orders.specs.declared.waiting.Waiting.{Waiting}
@@ -18,7 +17,7 @@ use Rattle.runs.specs.Order.{touches, degree, joins, joined}
 use Rattle.graph.specs.declared.rows.Edge.{Edge}
 use Rattle.graph.specs.declared.rows.Vertex.{Vertex}
 use Rattle.graph.specs.Chains.{nil, Halves, latest, at-vertex, same1, same2, Linked, Graph, link, row}
-use Rattle.ordering.specs.Queue.{Queued, Weighed, Replaced}
+use Rattle.ordering.specs.Queue.{Queued, Weighed}
 use Rattle.graph.proofs.Latest.{latest-same, latest-le, latest-past, latest-passes, touches-low, touches-high}
 use Rattle.ordering.proofs.Queues.{requeued}
 

@@ -1,35 +1,30 @@
 -- What the heap of waiting vertices and the places of the vertices say of each other.
-use mathlib.Core.Path.{_≡_, refl, sym, ap, ap₂, subst, _∙_}
-use mathlib.Core.Bool.{Bool, true, false, cond, _||_, _&&_, not}
-use mathlib.Core.List.{List, [], _∷_, _++_, map}
-use mathlib.Core.Logic.{_⊎_, inl, inr}
-use Prim.Native.Nat.{ℕ, zero, suc, _+_, _*_, _<_, _≤_}
+use mathlib.Core.Path.{_≡_, refl, sym, ap, subst, _∙_}
+use mathlib.Core.Bool.{Bool, true, false, _||_}
+use mathlib.Core.List.{List, [], _∷_, map}
+use mathlib.Core.Logic.{inl, inr}
+use Prim.Native.Nat.{ℕ, _+_, _<_, _≤_}
 use native.Mathlib.Omega.{arith}
-use lib.Dec.{eqb, ltb}
-use lib.ListN.{length, getD, set, take, drop}
-use Rattle.std.specs.shelf.Lists.{All, sumBy}
+use lib.Dec.{eqb}
+use lib.ListN.{length, set, take}
+use Rattle.std.specs.shelf.Lists.{All}
 use Rattle.std.specs.shelf.Sorted.{Shuffled}
 use Rattle.std.specs.declared.result.Result.{Result}
 use Rattle.std.specs.declared.result.Result.the-variants.{Ok, Err}
-use Rattle.std.specs.declared.option.Option.{Option}
-use Rattle.std.specs.declared.option.Option.the-variants.{Some, None}
-use Rattle.std.proofs.shelf.Tests.{cases-eq, cases-lt, cases-bool, both-ways, eq-eqb, ne-eqb, eqb-true, or-left, or-right, or-from, and-from, and-parts, not-true, not-from-false, ltb-false, cond-true, cond-false}
-use Rattle.std.proofs.shelf.Lists.{getD-set-same, getD-set-other, drop-set-lt, length-push, getD-push, getD-append-left, length-map, length-take-le}
+use Rattle.std.proofs.shelf.Tests.{cases-eq, cases-lt, both-ways, eq-eqb, ne-eqb, or-left}
+use Rattle.std.proofs.shelf.Lists.{getD-set-same, getD-set-other, drop-set-lt, length-map}
 use Rattle.std.proofs.shelf.Elements.{all-map, all-weaker}
 use Rattle.std.proofs.shelf.Sums.{sumBy-cons}
 use Rattle.std.proofs.shelf.Sorted.{all-shuffled, sumBy-shuffled}
-use Rattle.heap.specs.Order.{Leads, Holds, Pushed}
-use Rattle.orders.specs.Sooner.{sooner}
+use Rattle.heap.specs.Order.{Pushed}
 use Rattle.orders.specs.declared.waiting.Waiting.{Waiting}
-use Rattle.hashing.specs.Triples.{Triple}
-use Rattle.runs.specs.Lists.{among}
-use Rattle.runs.specs.Order.{touches, degree, joins, joined, Best, waits, waits-joined, Next}
-use Rattle.runs.proofs.Times.{one, one-le, one-true, one-false, times, Apart, tally, tally-all, tally-le}
+use Rattle.runs.specs.Order.{degree}
+use Rattle.runs.proofs.Times.{one-le, one-true, one-false, times, Apart, tally-all, tally-le}
 use Rattle.graph.specs.declared.rows.Vertex.{Vertex}
 use Rattle.graph.specs.declared.rows.Place.{Place}
 use Rattle.graph.specs.declared.rows.Place.the-variants.{Unseen, Waits, At}
 use Rattle.graph.specs.Chains.{bare, row}
-use Rattle.ordering.specs.Queue.{is-unseen, waiting, Stands, is-of, times-in, Known, Queued, Replaced, Weighed, Greatest, degree-at, unseen-at, Without, Chosen, Low, at-place}
+use Rattle.ordering.specs.Queue.{is-unseen, waiting, Stands, is-of, times-in, Known, Queued, Replaced, unseen-at, at-place}
 
 -- a vertex whose place is altered
 module _ (p : Place) (vertices : List Vertex) (u : ℕ) where

@@ -1,8 +1,8 @@
 -- The vertices that wait for their place, the order as it is written, and what `order` answers and leaves.
 use mathlib.Core.Path.{_≡_}
-use mathlib.Core.List.{List, _++_, _∷_, []}
-use mathlib.Core.Bool.{Bool, true, false, cond, _||_, _&&_}
-use Prim.Native.Nat.{ℕ, _+_, _*_, _<_, _≤_}
+use mathlib.Core.List.{List}
+use mathlib.Core.Bool.{Bool, true, false, cond, _&&_}
+use Prim.Native.Nat.{ℕ, _*_, _<_, _≤_}
 use lib.Dec.{eqb, leb}
 use lib.ListN.{length, getD, take, drop}
 use Rattle.std.specs.shelf.Lists.{All, sumBy}
@@ -10,7 +10,7 @@ use Rattle.std.specs.declared.option.Option.{Option}
 use Rattle.std.specs.declared.option.Option.the-variants.{Some, None}
 use Rattle.hashing.specs.Triples.{Triple}
 use Rattle.runs.specs.Lists.{among}
-use Rattle.runs.specs.Order.{degree, joined, order, Best, Next}
+use Rattle.runs.specs.Order.{degree, order, Best, Next}
 use Rattle.orders.specs.declared.waiting.Waiting.{Waiting}
 use Rattle.graph.specs.declared.rows.Edge.{Edge}
 use Rattle.graph.specs.declared.rows.Vertex.{Vertex}

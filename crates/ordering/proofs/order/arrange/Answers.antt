@@ -1,11 +1,9 @@
 use native.Mathlib.Omega.{arith}
-use mathlib.Core.Path.{_≡_, refl, sym, ap, subst, _∙_}
-use mathlib.Core.List.{List, []}
+use mathlib.Core.Path.{refl, sym, ap, subst, _∙_}
+use mathlib.Core.List.{[]}
 use Prim.Native.Nat.{_+_, _<_, _≤_, _*_}
 use lib.ListN.{length, take, drop}
 use Rattle.std.proofs.shelf.Lists.{drop-set-lt, drop-drop}
-use Rattle.orders.specs.declared.waiting.Waiting.{Waiting}
-use Rattle.ordering.specs.Queue.{Begun}
 use Rattle.ordering.proofs.Queues.{replaced-none, replaced-both}
 use Rattle.ordering.proofs.Starts.{bounded-on}
 use Rattle.ordering.proofs.Gathering.{graph-kept, graph-weighs}

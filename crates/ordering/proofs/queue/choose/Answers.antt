@@ -1,5 +1,5 @@
 use native.Mathlib.Omega.{arith}
-use mathlib.Core.Path.{_≡_, ap, _∙_}
+use mathlib.Core.Path.{ap, _∙_}
 use lib.ListN.{length, take}
 use Rattle.ordering.proofs.Choosing.{popped, popped-low, started, greatest-low}
 use Rattle.ordering.proofs.Starts.{greatest-bounds}

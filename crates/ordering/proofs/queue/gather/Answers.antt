@@ -1,7 +1,7 @@
 use native.Mathlib.Omega.{arith}
-use mathlib.Core.Path.{_≡_, refl, _∙_}
+use mathlib.Core.Path.{refl, _∙_}
 use mathlib.Core.List.{_++_, _∷_, []}
-use Prim.Native.Nat.{_<_, _≤_, _*_}
+use Prim.Native.Nat.{_<_, _*_}
 use Rattle.runs.specs.Order.{degree}
 use Rattle.ordering.proofs.Queues.{replaced-none, replaced-both}
 use Rattle.ordering.proofs.Gathering.{seen-from, gather-begins, gather-goes, gather-ends, far-below, graph-kept, graph-weighs}

@@ -1,5 +1,4 @@
-use native.Mathlib.Omega.{arith}
-use mathlib.Core.Path.{sym, _∙_}
+use mathlib.Core.Path.{sym}
 use Rattle.ordering.specs.Queue.{degree-at, unseen-at}
 use Rattle.ordering.proofs.Starts.{so-far-found, so-far-kept, step-seen, step-less}
 use Rattle.ordering.proofs.queue.greatest.Needs as need

@@ -1,6 +1,6 @@
 use native.Mathlib.Omega.{arith}
-use mathlib.Core.Path.{_≡_, refl, sym, ap, subst, _∙_}
-use Prim.Native.Nat.{_<_, _≤_}
+use mathlib.Core.Path.{refl, sym, subst}
+use Prim.Native.Nat.{_<_}
 use lib.ListN.{length, take}
 use Rattle.std.proofs.shelf.Lists.{length-take-le}
 use Rattle.graph.specs.declared.rows.Place.the-variants.{Waits}
