@@ -1,6 +1,6 @@
 //! A works' list of names and settings as people type it, and the report on it.
 
-pub mod append;
-pub mod proposal;
+mod append;
+mod proposal;
 pub mod report;
 pub mod typed;

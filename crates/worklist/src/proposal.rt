@@ -25,7 +25,7 @@ fn rotations<W: Way>(heap: Global, way: &W, level: usize) -> Result<String, Allo
 }
 
 /// Proposes stride ways for n names, from about half of n on, until one keeps the rule.
-pub fn propose(heap: Global, n: u16, out: &mut String) -> Result<(), AllocError> {
+pub(crate) fn propose(heap: Global, n: u16, out: &mut String) -> Result<(), AllocError> {
     let start = if n > 1 { 1 } else { 0 };
     let first = (n / 2).saturating_sub(1).max(1);
     for stride in first..=n {

@@ -31,7 +31,7 @@ pub trait Typed: Kind {
 }
 
 /// The number that a word writes; one too large for its type is read as 0, which no range has.
-pub fn number_or_0(word: &str) -> Option<u16> {
+pub(crate) fn number_or_0(word: &str) -> Option<u16> {
     match word.parse::<u64>() {
         Ok(x) => Some(u16::try_from(x).unwrap_or(0)),
         Err(_) => None,
