@@ -1,4 +1,6 @@
 //! The tagged fields of a plate string, written into lent memory.
 
+#![tactic(auto)]
+
 pub mod laws;
 pub mod write;

@@ -1,5 +1,7 @@
 //! Tests of the writing of fields.
 
+#![tactic(auto)]
+
 #[cfg(test)]
 mod tests {
     use fields::write::{write_header, write_record, write_value, write_values_head};

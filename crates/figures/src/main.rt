@@ -1,5 +1,8 @@
 //! The worked figures of the product: one proof over a list of cases, and a run of the generator
 //! to its published figures.
+
+#![tactic(auto)]
+
 ghost use Rattle.std.specs.Prelude.{◌≡◌};
 ghost use Rattle.hashing.specs.Generator.{after};
 ghost use Rattle.figures.specs.Figures.{FiguresHold};

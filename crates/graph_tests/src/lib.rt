@@ -1,4 +1,7 @@
 //! Examples of mapping, clash test and order, over tables that are written by hand.
+
+#![tactic(auto)]
+
 #[cfg(test)]
 mod tests {
     use graph::build::map_names;

@@ -1,5 +1,7 @@
 //! Examples of names, seeds, tables and triples, at the edges of their ranges.
 
+#![tactic(auto)]
+
 #[cfg(test)]
 mod tests {
     use hashing::fault::HashFault;

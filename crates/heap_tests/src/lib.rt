@@ -1,3 +1,6 @@
 //! Examples of heaps, run.
+
+#![tactic(auto)]
+
 #[cfg(test)]
 mod heaps;

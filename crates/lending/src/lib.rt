@@ -1,5 +1,7 @@
 //! The work lists of a caller of a pressing, of full length.
 
+#![tactic(auto)]
+
 use graph::rows::{Edge, Place, Row, Vertex};
 use hashing::tables::TABLE_NUMBERS;
 use names::kind::Kind;

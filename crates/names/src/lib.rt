@@ -1,5 +1,7 @@
 //! Kinds of names: the interface, and the two kinds of the works, point names and day cells.
 
+#![tactic(auto)]
+
 pub mod cell;
 pub mod fault;
 pub mod kind;

@@ -1,4 +1,7 @@
 //! Reads the list of a works from standard input, presses it, and prints the report on it.
+
+#![tactic(auto)]
+
 use reporting::report::report;
 use std::io;
 

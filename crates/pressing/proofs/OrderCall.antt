@@ -118,7 +118,7 @@ module _ {N : Type 0} (spelling : N → List ℕ) (p : Pressing N) (l : Memory N
         }
 
       pub accepted : (p' : Pressing N) → p'.stage ≡ t → p'.count ≡ p.count → p'.r ≡ p.r → p'.seed ≡ p.seed → p'.level ≡ 0 → p'.levels ≡ k → OrderDone spelling p l (Ok k) p' l'
-      accepted p' staged counted_is r_is seed_is level_is levels-is = record {
+      accepted p' staged counted_is r_is seed_is level_is levels_is = record {
         done = by_acceptance spelling (order_by (lent l)) ordered (order_gate p l) None p l (λ _. None) split k p' l'
             (on_stage ∙ goes (ample (lent l)) ShortList [] (sym h)) as_long tt
             (λ m z. (
@@ -130,7 +130,7 @@ module _ {N : Type 0} (spelling : N → List ℕ) (p : Pressing N) (l : Memory N
                 r = r_is ∙ z.kept.r;
                 seed = seed_is ∙ z.kept.seed;
                 level = level_is;
-                levels = λ _. levels-is ∙ counted m z;
+                levels = λ _. levels_is ∙ counted m z;
               },
               λ _. held m z,
             ));

@@ -1,5 +1,7 @@
 //! A pressing, the making of one plate: six calls over lists that the caller lends.
 
+#![tactic(auto)]
+
 pub mod answer;
 pub mod calls;
 mod entering;

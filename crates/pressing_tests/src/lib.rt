@@ -1,4 +1,7 @@
 //! Sessions of calls to a pressing, and reports on lists, with what they are answered.
+
+#![tactic(auto)]
+
 #[cfg(test)]
 mod tests {
     use replaying::replay;

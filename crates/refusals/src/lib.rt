@@ -1,4 +1,7 @@
 //! Checks in their order, each with its fault: what a call that makes them answers.
+
+#![tactic(auto)]
+
 ghost use Rattle.refusals.specs.Laws.{FirstBrokenRefuses, LowestBrokenRefuses, AllMet};
 
 /// A refusal is by the first check that is broken, and among numbered ones by the lowest;

@@ -1,4 +1,7 @@
 //! Replays a session of calls to a pressing from standard input, and prints the answers.
+
+#![tactic(auto)]
+
 use replaying::replay;
 use std::io;
 

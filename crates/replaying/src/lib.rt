@@ -1,5 +1,7 @@
 //! Replays a session of calls to a pressing from text: each call is answered with a line.
 
+#![tactic(auto)]
+
 pub mod reply;
 mod said;
 mod session;

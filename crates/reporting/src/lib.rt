@@ -1,6 +1,8 @@
 //! The report on a works' list: what was read, the triples, a way of trying, and the plate that is
 //! pressed with it.
 
+#![tactic(auto)]
+
 mod list;
 mod proposal;
 pub mod report;

@@ -1,4 +1,7 @@
 //! The season of a works: reads its list from standard input and prints the report on it.
+
+#![tactic(auto)]
+
 use std::io;
 use worklist::report::report;
 

@@ -1,3 +1,6 @@
 //! Examples of ways, run.
+
+#![tactic(auto)]
+
 #[cfg(test)]
 mod rotations;
