@@ -60,7 +60,7 @@ fn put_header(memory: &mut [u8], kind: u8, n: u16, r: u16, seed: u32)
 /// a name tells 0 past its spelling.
 fn put_spelling<N: Kind>(memory: &mut [u8], at: usize, name: &N)
     requires { at + 16 ≤ length memory.old }
-    ensures { memory.new ≡ written at (take 16 (padded (spelling name.now))) memory.old }
+    ensures { memory.new ≡ written at (take 16 (padded (N.spelling name.now))) memory.old }
 {
     for k in 0..16 {
         memory[at + k] = name.byte(k + 1);
@@ -70,7 +70,7 @@ fn put_spelling<N: Kind>(memory: &mut [u8], at: usize, name: &N)
 /// One record's field at a place.
 fn put_record<N: Kind>(memory: &mut [u8], at: usize, setting: u16, name: &N)
     requires { at + 22 ≤ length memory.old }
-    ensures { memory.new ≡ written at (record_field (record { spelling = spelling name.now; setting = setting })) memory.old }
+    ensures { memory.new ≡ written at (record_field (record { spelling = N.spelling name.now; setting = setting })) memory.old }
 {
     put_head(memory, at, 5, 19);
     put_two(memory, at + 3, setting);
@@ -133,7 +133,7 @@ pub fn write_record<N: Kind>(
     name: &N,
 ) -> bool
     ensures answer { result ≡ (nat_lt slot sizes.n && nat_le (record_place sizes.r slot + 22) (length memory.old)) }
-    ensures memory { memory.new ≡ written_if (nat_lt slot sizes.n && nat_le (record_place sizes.r slot + 22) (length memory.old)) (record_place sizes.r slot) (record_field (record { spelling = spelling name.now; setting = setting })) memory.old }
+    ensures memory { memory.new ≡ written_if (nat_lt slot sizes.n && nat_le (record_place sizes.r slot + 22) (length memory.old)) (record_place sizes.r slot) (record_field (record { spelling = N.spelling name.now; setting = setting })) memory.old }
 {
     if slot >= usize::from(sizes.n()) {
         return false;

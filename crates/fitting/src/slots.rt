@@ -30,7 +30,7 @@ pub fn first_that_fits<W: Way>(
     level: &[LevelName],
     slots: &[Option<u16>],
 ) -> Option<(u16, u16)>
-    ensures { Tried (meaning way.now) number (offsets level.now) slots.now result }
+    ensures { Tried (W.meaning way.now) number (offsets level.now) slots.now result }
 {
     let n = slots.len();
     if usize::from(way.size()) != n {

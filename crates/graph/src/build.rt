@@ -86,7 +86,7 @@ pub fn map_names<N: Kind>(
     edges: &mut [Edge],
     vertices: &mut [Vertex],
 ) -> Option<()>
-    ensures { MatchOption result (MapRefused (map_fits count sizes.r (length rows.now) (length tables.now) (length edges.old) (length vertices.old)) edges.old edges.new vertices.old vertices.new) (λ _. MapWritten (map_fits count sizes.r (length rows.now) (length tables.now) (length edges.old) (length vertices.old)) (row_triples spelling tables.now sizes.n sizes.r (take count rows.now)) count sizes.r edges.old edges.new vertices.old vertices.new) }
+    ensures { MatchOption result (MapRefused (map_fits count sizes.r (length rows.now) (length tables.now) (length edges.old) (length vertices.old)) edges.old edges.new vertices.old vertices.new) (λ _. MapWritten (map_fits count sizes.r (length rows.now) (length tables.now) (length edges.old) (length vertices.old)) (row_triples N.spelling tables.now sizes.n sizes.r (take count rows.now)) count sizes.r edges.old edges.new vertices.old vertices.new) }
 {
     let r = sizes.r() as usize;
     if !fits(

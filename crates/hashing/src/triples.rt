@@ -56,7 +56,7 @@ impl Sums {
 /// The sums over a name, read from the bytes that it tells.
 fn sums_of<N: Kind>(tables: &[u32], name: &N) -> Sums
     requires { 12288 ≤ length tables.now }
-    ensures { (result.s0 ≡ sum tables.now 0 (spelling name.now)) × (result.s1 ≡ sum tables.now 1 (spelling name.now)) × (result.s2 ≡ sum tables.now 2 (spelling name.now)) }
+    ensures { (result.s0 ≡ sum tables.now 0 (N.spelling name.now)) × (result.s1 ≡ sum tables.now 1 (N.spelling name.now)) × (result.s2 ≡ sum tables.now 2 (N.spelling name.now)) }
 {
     let mut sums = NO_SUMS;
     for i in 0..name.len() {
@@ -79,7 +79,7 @@ fn sums_at(tables: &[u32], bytes: &[u8]) -> Sums
 
 /// The triple of a name, whatever the tables hold; none exactly if they are short of 12,288.
 pub fn triple_of<N: Kind>(tables: &[u32], sizes: Sizes, name: &N) -> Option<(u16, u16, u16)>
-    ensures { result ≡ hashed tables.now sizes.n sizes.r (spelling name.now) }
+    ensures { result ≡ hashed tables.now sizes.n sizes.r (N.spelling name.now) }
 {
     if tables.len() < TABLE_NUMBERS {
         return None;

@@ -62,9 +62,9 @@ pub fn fit_level<W: Way>(
     slots: &mut [Option<u16>],
 ) -> Option<(u16, u16)>
     ensures short { level_fits n r level (length edges.now) (length vertices.old) (length ordered.now) (length slots.old) ≡ false → result ≡ None }
-    ensures sized { ((meaning way.now).size ≢ n) → result ≡ None }
+    ensures sized { ((W.meaning way.now).size ≢ n) → result ≡ None }
     ensures given { MatchOption result (Unchanged vertices.old vertices.new slots.old slots.new) (λ x. LevelGiven n (2 * r) (slice_index ordered.now level) x.0 vertices.old vertices.new slots.old slots.new) }
-    ensures told { (es : List Triple) (values filled : List ℕ) → level_fits n r level (length edges.now) (length vertices.old) (length ordered.now) (length slots.old) ≡ true → (meaning way.now).size ≡ n → LevelHeld es r n values filled level edges.now vertices.old ordered.now slots.old → LevelFitted (meaning way.now) es r n values filled level edges.now vertices.new ordered.now slots.new result }
+    ensures told { (es : List Triple) (values filled : List ℕ) → level_fits n r level (length edges.now) (length vertices.old) (length ordered.now) (length slots.old) ≡ true → (W.meaning way.now).size ≡ n → LevelHeld es r n values filled level edges.now vertices.old ordered.now slots.old → LevelFitted (W.meaning way.now) es r n values filled level edges.now vertices.new ordered.now slots.new result }
 {
     if !fits(
         n,

@@ -1,7 +1,9 @@
 ghost use Rattle.std.specs.Prelude.{◌≡◌, ℕ, ◌≤◌, Bool, true, false, List, [], ◌∷◌, length, MatchOption};
 ghost use Rattle.refusals.specs.Checks.{Answered};
+ghost use Rattle.names.specs.Spellings.{two_at};
 ghost use Rattle.names.specs.Cells.{cell_spelling, cell_judged, cell_fault};
-ghost use Rattle.std.proofs.Common.{rules, arith};
+ghost use Rattle.names.specs.Judged.{cell_parts};
+ghost use Rattle.std.proofs.Common.{rules};
 
 use crate::fault::NameFault;
 use crate::kind::Kind;
@@ -65,23 +67,23 @@ impl Kind for DayCell {
 
     ghost judged = { cell_judged };
 
-    ghost number_from_1 = { first_of (Prim.search rules, Prim.grind (arith, Self.row.coded.inj)) };
+    ghost number_from_1 = { Prim.search rules };
 
-    ghost number_to_255 = { first_of (Prim.search rules, Prim.grind (arith, Self.row.coded.inj)) };
+    ghost number_to_255 = { Prim.search rules };
 
-    ghost spelling_from_1 = { first_of (Prim.search rules, Prim.grind (arith, Self.row.coded.inj)) };
+    ghost spelling_from_1 = { Prim.search rules };
 
-    ghost spelling_to_16 = { first_of (Prim.search rules, Prim.grind (arith, Self.row.coded.inj)) };
+    ghost spelling_to_16 = { Prim.search rules };
 
-    ghost spelled_in_bytes = { first_of (Prim.search rules, Prim.grind (arith, Self.row.coded.inj)) };
+    ghost spelled_in_bytes = { Prim.search rules };
 
-    ghost one_spelling_one_identity = { first_of (Prim.search rules, Prim.grind (arith, Self.row.coded.inj)) };
+    ghost one_spelling_one_identity = { Prim.search rules };
 
-    ghost one_identity_one_spelling = { first_of (Prim.search rules, Prim.grind (arith, Self.row.coded.inj)) };
+    ghost one_identity_one_spelling = { Prim.search rules };
 
-    ghost spellings_are_judged_yes = { first_of (Prim.search rules, Prim.grind (arith, Self.row.coded.inj)) };
+    ghost spellings_are_judged_yes = { Prim.search rules };
 
-    ghost judged_yes_are_spellings = { first_of (Prim.search rules, Prim.grind (arith, Self.row.coded.inj)) };
+    ghost judged_yes_are_spellings = { λ s b e. let p = cell_parts s b e in (record { pan = two_at s 0; day = two_at s 2; pan_from_1 = p.pan_from_1; pan_to_999 = p.pan_to_999; day_from_1 = p.day_from_1; day_to_366 = p.day_to_366 }, p.is) };
 
     fn number() -> u8 {
         KIND

@@ -1,8 +1,9 @@
-ghost use Rattle.std.specs.Prelude.{◌≡◌, ℕ, ◌≤◌, Bool, true, List, length, take, MatchOption};
+ghost use Rattle.std.specs.Prelude.{◌≡◌, ℕ, ◌-◌, ◌≤◌, Bool, true, List, ◌++◌, length, take, replicate, MatchOption};
 ghost use Rattle.refusals.specs.Checks.{Answered};
 ghost use Rattle.names.specs.Spellings.{in_range};
 ghost use Rattle.names.specs.Points.{all_visible, point_judged, point_fault};
-ghost use Rattle.std.proofs.Common.{rules, arith};
+ghost use Rattle.names.specs.Judged.{visible_low, point_parts};
+ghost use Rattle.std.proofs.Common.{rules};
 
 use crate::fault::NameFault;
 use crate::kind::Kind;
@@ -88,23 +89,23 @@ impl Kind for PointName {
 
     ghost judged = { point_judged };
 
-    ghost number_from_1 = { first_of (Prim.search rules, Prim.grind (arith, Self.row.coded.inj)) };
+    ghost number_from_1 = { Prim.search rules };
 
-    ghost number_to_255 = { first_of (Prim.search rules, Prim.grind (arith, Self.row.coded.inj)) };
+    ghost number_to_255 = { Prim.search rules };
 
-    ghost spelling_from_1 = { first_of (Prim.search rules, Prim.grind (arith, Self.row.coded.inj)) };
+    ghost spelling_from_1 = { Prim.search rules };
 
-    ghost spelling_to_16 = { first_of (Prim.search rules, Prim.grind (arith, Self.row.coded.inj)) };
+    ghost spelling_to_16 = { Prim.search rules };
 
-    ghost spelled_in_bytes = { first_of (Prim.search rules, Prim.grind (arith, Self.row.coded.inj)) };
+    ghost spelled_in_bytes = { λ x. visible_low (take x.len x.bytes) x.visible };
 
-    ghost one_spelling_one_identity = { first_of (Prim.search rules, Prim.grind (arith, Self.row.coded.inj)) };
+    ghost one_spelling_one_identity = { Prim.search rules };
 
-    ghost one_identity_one_spelling = { first_of (Prim.search rules, Prim.grind (arith, Self.row.coded.inj)) };
+    ghost one_identity_one_spelling = { Prim.search rules };
 
-    ghost spellings_are_judged_yes = { first_of (Prim.search rules, Prim.grind (arith, Self.row.coded.inj)) };
+    ghost spellings_are_judged_yes = { Prim.search rules };
 
-    ghost judged_yes_are_spellings = { first_of (Prim.search rules, Prim.grind (arith, Self.row.coded.inj)) };
+    ghost judged_yes_are_spellings = { λ s _ e. let p = point_parts s e in (record { bytes = s ++ replicate (16 - length s) 0; len = length s; whole = p.whole; some = p.some; few = p.few; visible = p.visible }, p.is) };
 
     fn number() -> u8 {
         KIND

@@ -25,7 +25,7 @@ use ways::way::Way;
 impl<N: Kind> Pressing<N> {
     /// A pressing that is open, without names: the empty run left it, whatever the lists hold.
     pub fn new() -> Pressing<N>
-        ensures { (l : Memory N) → Left spelling beginning result l }
+        ensures { (l : Memory N) → Left N.spelling beginning result l }
     {
         Pressing {
             stage: Stage::Open,
@@ -62,7 +62,7 @@ impl<N: Kind> Pressing<N> {
         name: N,
         setting: u16,
     ) -> Result<(), PressFault>
-        ensures { EnterDone spelling name setting self.old (memory lists.entry.rows.now lists.entry.tables.now lists.entry.edges.now lists.entry.vertices.now lists.entry.heap.now lists.entry.ordered.now lists.entry.slots.now) result self.new (memory lists.exit.0.now lists.exit.1.0.now lists.exit.1.1.0.now lists.exit.1.1.1.0.now lists.exit.1.1.1.1.0.now lists.exit.1.1.1.1.1.0.now lists.exit.1.1.1.1.1.1.0.now) }
+        ensures { EnterDone N.spelling name setting self.old (memory lists.entry.rows.now lists.entry.tables.now lists.entry.edges.now lists.entry.vertices.now lists.entry.heap.now lists.entry.ordered.now lists.entry.slots.now) result self.new (memory lists.exit.0.now lists.exit.1.0.now lists.exit.1.1.0.now lists.exit.1.1.1.0.now lists.exit.1.1.1.1.0.now lists.exit.1.1.1.1.1.0.now lists.exit.1.1.1.1.1.1.0.now) }
     {
         let next = self.after(Event::Enter)?;
         if !lists.are_ample() {
@@ -89,7 +89,7 @@ impl<N: Kind> Pressing<N> {
         r: u16,
         seed: u32,
     ) -> Result<(), PressFault>
-        ensures { MapDone spelling r seed self.old (memory lists.entry.rows.now lists.entry.tables.now lists.entry.edges.now lists.entry.vertices.now lists.entry.heap.now lists.entry.ordered.now lists.entry.slots.now) result self.new (memory lists.exit.0.now lists.exit.1.0.now lists.exit.1.1.0.now lists.exit.1.1.1.0.now lists.exit.1.1.1.1.0.now lists.exit.1.1.1.1.1.0.now lists.exit.1.1.1.1.1.1.0.now) }
+        ensures { MapDone N.spelling r seed self.old (memory lists.entry.rows.now lists.entry.tables.now lists.entry.edges.now lists.entry.vertices.now lists.entry.heap.now lists.entry.ordered.now lists.entry.slots.now) result self.new (memory lists.exit.0.now lists.exit.1.0.now lists.exit.1.1.0.now lists.exit.1.1.1.0.now lists.exit.1.1.1.1.0.now lists.exit.1.1.1.1.1.0.now lists.exit.1.1.1.1.1.1.0.now) }
     {
         let next = self.after(Event::Map)?;
         if !lists.are_ample() {
@@ -114,7 +114,7 @@ impl<N: Kind> Pressing<N> {
     /// Writes the order of the vertices, sets all values to 0 and empties all slots; answers how many
     /// vertices are ordered.
     pub fn order(&mut self, lists: Lists<'_, '_, '_, '_, '_, '_, '_, N>) -> Result<u16, PressFault>
-        ensures { OrderDone spelling self.old (memory lists.entry.rows.now lists.entry.tables.now lists.entry.edges.now lists.entry.vertices.now lists.entry.heap.now lists.entry.ordered.now lists.entry.slots.now) result self.new (memory lists.exit.0.now lists.exit.1.0.now lists.exit.1.1.0.now lists.exit.1.1.1.0.now lists.exit.1.1.1.1.0.now lists.exit.1.1.1.1.1.0.now lists.exit.1.1.1.1.1.1.0.now) }
+        ensures { OrderDone N.spelling self.old (memory lists.entry.rows.now lists.entry.tables.now lists.entry.edges.now lists.entry.vertices.now lists.entry.heap.now lists.entry.ordered.now lists.entry.slots.now) result self.new (memory lists.exit.0.now lists.exit.1.0.now lists.exit.1.1.0.now lists.exit.1.1.1.0.now lists.exit.1.1.1.1.0.now lists.exit.1.1.1.1.1.0.now lists.exit.1.1.1.1.1.1.0.now) }
     {
         let next = self.after(Event::Order)?;
         if !lists.are_ample() {
@@ -143,7 +143,7 @@ impl<N: Kind> Pressing<N> {
         lists: Lists<'_, '_, '_, '_, '_, '_, '_, N>,
         way: &W,
     ) -> Result<Fit, PressFault>
-        ensures { FitDone spelling (meaning way.now) self.old (memory lists.entry.rows.now lists.entry.tables.now lists.entry.edges.now lists.entry.vertices.now lists.entry.heap.now lists.entry.ordered.now lists.entry.slots.now) result self.new (memory lists.exit.0.now lists.exit.1.0.now lists.exit.1.1.0.now lists.exit.1.1.1.0.now lists.exit.1.1.1.1.0.now lists.exit.1.1.1.1.1.0.now lists.exit.1.1.1.1.1.1.0.now) }
+        ensures { FitDone N.spelling (W.meaning way.now) self.old (memory lists.entry.rows.now lists.entry.tables.now lists.entry.edges.now lists.entry.vertices.now lists.entry.heap.now lists.entry.ordered.now lists.entry.slots.now) result self.new (memory lists.exit.0.now lists.exit.1.0.now lists.exit.1.1.0.now lists.exit.1.1.1.0.now lists.exit.1.1.1.1.0.now lists.exit.1.1.1.1.1.0.now lists.exit.1.1.1.1.1.1.0.now) }
     {
         let level = self.level;
         let next = self.after(Event::Fit(level + 1 >= self.levels))?;
@@ -188,7 +188,7 @@ impl<N: Kind> Pressing<N> {
         lists: Lists<'_, '_, '_, '_, '_, '_, '_, N>,
         string: &mut [u8],
     ) -> Result<usize, PressFault>
-        ensures { SealDone spelling number self.old (memory lists.entry.rows.now lists.entry.tables.now lists.entry.edges.now lists.entry.vertices.now lists.entry.heap.now lists.entry.ordered.now lists.entry.slots.now) string.old result self.new (memory lists.exit.0.now lists.exit.1.0.now lists.exit.1.1.0.now lists.exit.1.1.1.0.now lists.exit.1.1.1.1.0.now lists.exit.1.1.1.1.1.0.now lists.exit.1.1.1.1.1.1.0.now) string.new }
+        ensures { SealDone N.spelling N.number self.old (memory lists.entry.rows.now lists.entry.tables.now lists.entry.edges.now lists.entry.vertices.now lists.entry.heap.now lists.entry.ordered.now lists.entry.slots.now) string.old result self.new (memory lists.exit.0.now lists.exit.1.0.now lists.exit.1.1.0.now lists.exit.1.1.1.0.now lists.exit.1.1.1.1.0.now lists.exit.1.1.1.1.1.0.now lists.exit.1.1.1.1.1.1.0.now) string.new }
     {
         let next = self.after(Event::Seal)?;
         if !lists.are_ample() {
@@ -210,7 +210,7 @@ impl<N: Kind> Pressing<N> {
 
     /// Back to the stage open, with the names kept. No list is lent.
     pub fn reopen(&mut self) -> Result<(), PressFault>
-        ensures { ReopenDone spelling self.old result self.new }
+        ensures { ReopenDone N.spelling self.old result self.new }
     {
         self.stage = self.after(Event::Reopen)?;
         Ok(())

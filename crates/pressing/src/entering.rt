@@ -8,7 +8,7 @@ use names::kind::Kind;
 
 // Whether two names have one spelling.
 fn is_same<N: Kind>(a: &N, b: &N) -> bool
-    ensures { result ≡ bytes_eq (spelling a.now) (spelling b.now) }
+    ensures { result ≡ bytes_eq (N.spelling a.now) (N.spelling b.now) }
 {
     let len = a.len();
     if len != b.len() {
@@ -24,7 +24,7 @@ fn is_same<N: Kind>(a: &N, b: &N) -> bool
 
 // Whether one of the rows has a name with the spelling of this one.
 fn is_among<N: Kind>(rows: &[Row<N>], name: &N) -> bool
-    ensures { result ≡ has bytes_eq (spelling name.now) (map (λ x. spelling x.name) rows.now) }
+    ensures { result ≡ has bytes_eq (N.spelling name.now) (map (λ x. N.spelling x.name) rows.now) }
 {
     for row in rows {
         if is_same(name, &row.name) {
@@ -37,7 +37,7 @@ fn is_among<N: Kind>(rows: &[Row<N>], name: &N) -> bool
 // Whether one of the first `count` rows has.
 pub(crate) fn is_entered<N: Kind>(rows: &[Row<N>], count: usize, name: &N) -> bool
     requires { count ≤ length rows.now }
-    ensures { result ≡ has bytes_eq (spelling name.now) (map (λ x. spelling x.name) (take count rows.now)) }
+    ensures { result ≡ has bytes_eq (N.spelling name.now) (map (λ x. N.spelling x.name) (take count rows.now)) }
 {
     is_among(&rows[0..count], name)
 }

@@ -23,7 +23,7 @@ pub(crate) fn map_lists<N: Kind>(
     vertices: &mut [Vertex],
 ) -> Result<(), PressFault>
     requires { (1024 ≤ length rows.now) × (12288 ≤ length tables.old) × (1024 ≤ length edges.old) × (2048 ≤ length vertices.old) }
-    ensures { MapWorked spelling sizes.n sizes.r seed.value rows.now tables.old tables.new edges.old edges.new vertices.old vertices.new result }
+    ensures { MapWorked N.spelling sizes.n sizes.r seed.value rows.now tables.old tables.new edges.old edges.new vertices.old vertices.new result }
 {
     fill(tables, seed)?;
     let count = usize::from(sizes.n());

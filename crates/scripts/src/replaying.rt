@@ -66,7 +66,7 @@ fn perform<N: Kind, W: Way>(
     slots: &mut [Option<u16>],
     string: &mut [u8],
 ) -> Answer
-    ensures { Performed spelling number meaning call.now pressing.old (memory rows.old tables.old edges.old vertices.old heap.old ordered.old slots.old) string.old result pressing.new (memory rows.new tables.new edges.new vertices.new heap.new ordered.new slots.new) string.new }
+    ensures { Performed N.spelling N.number W.meaning call.now pressing.old (memory rows.old tables.old edges.old vertices.old heap.old ordered.old slots.old) string.old result pressing.new (memory rows.new tables.new edges.new vertices.new heap.new ordered.new slots.new) string.new }
 {
     let lists = Lists {
         rows: &mut *rows,
@@ -108,7 +108,7 @@ fn take_step<N: Kind, W: Way>(
     slots: &mut [Option<u16>],
     string: &mut [u8],
 ) -> Answer
-    ensures { StepTaken spelling number meaning step.now pressing.old (memory rows.old tables.old edges.old vertices.old heap.old ordered.old slots.old) string.old result pressing.new (memory rows.new tables.new edges.new vertices.new heap.new ordered.new slots.new) string.new }
+    ensures { StepTaken N.spelling N.number W.meaning step.now pressing.old (memory rows.old tables.old edges.old vertices.old heap.old ordered.old slots.old) string.old result pressing.new (memory rows.new tables.new edges.new vertices.new heap.new ordered.new slots.new) string.new }
 {
     let lengths = step.lengths;
     let row_count = least(lengths.rows, rows.len());
@@ -143,7 +143,7 @@ pub fn replay<N: Kind, W: Way>(
     string: &mut [u8],
     answers: &mut [Answer],
 ) -> Option<()>
-    ensures { MatchOption result (NotReplayed script.now pressing.old (memory lists.entry.rows.now lists.entry.tables.now lists.entry.edges.now lists.entry.vertices.now lists.entry.heap.now lists.entry.ordered.now lists.entry.slots.now) string.old answers.old pressing.new (memory lists.exit.0.now lists.exit.1.0.now lists.exit.1.1.0.now lists.exit.1.1.1.0.now lists.exit.1.1.1.1.0.now lists.exit.1.1.1.1.1.0.now lists.exit.1.1.1.1.1.1.0.now) string.new answers.new) (λ _. Replayed spelling number meaning script.now pressing.old (memory lists.entry.rows.now lists.entry.tables.now lists.entry.edges.now lists.entry.vertices.now lists.entry.heap.now lists.entry.ordered.now lists.entry.slots.now) string.old answers.old pressing.new (memory lists.exit.0.now lists.exit.1.0.now lists.exit.1.1.0.now lists.exit.1.1.1.0.now lists.exit.1.1.1.1.0.now lists.exit.1.1.1.1.1.0.now lists.exit.1.1.1.1.1.1.0.now) string.new answers.new) }
+    ensures { MatchOption result (NotReplayed script.now pressing.old (memory lists.entry.rows.now lists.entry.tables.now lists.entry.edges.now lists.entry.vertices.now lists.entry.heap.now lists.entry.ordered.now lists.entry.slots.now) string.old answers.old pressing.new (memory lists.exit.0.now lists.exit.1.0.now lists.exit.1.1.0.now lists.exit.1.1.1.0.now lists.exit.1.1.1.1.0.now lists.exit.1.1.1.1.1.0.now lists.exit.1.1.1.1.1.1.0.now) string.new answers.new) (λ _. Replayed N.spelling N.number W.meaning script.now pressing.old (memory lists.entry.rows.now lists.entry.tables.now lists.entry.edges.now lists.entry.vertices.now lists.entry.heap.now lists.entry.ordered.now lists.entry.slots.now) string.old answers.old pressing.new (memory lists.exit.0.now lists.exit.1.0.now lists.exit.1.1.0.now lists.exit.1.1.1.0.now lists.exit.1.1.1.1.0.now lists.exit.1.1.1.1.1.0.now lists.exit.1.1.1.1.1.1.0.now) string.new answers.new) }
 {
     let Lists {
         rows,

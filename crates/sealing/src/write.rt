@@ -26,7 +26,7 @@ fn fits(n: usize, r: usize, memory: usize, vertices: usize, slots: usize) -> boo
 /// The fields of kind, sizes and seed, and the head of the values field.
 fn write_front<N: Kind>(sizes: Sizes, seed: Seed, memory: &mut [u8])
     requires { 21 ≤ length memory.old }
-    ensures { memory.new ≡ front_written number sizes.n sizes.r seed.value memory.old }
+    ensures { memory.new ≡ front_written N.number sizes.n sizes.r seed.value memory.old }
 {
     let _ = write_header(memory, N::number(), sizes, seed);
     let _ = write_values_head(memory, sizes);
@@ -51,7 +51,7 @@ fn write_slot<N: Kind>(
     memory: &mut [u8],
 )
     requires { (slot < sizes.n) × (seal_length sizes.n sizes.r ≤ length memory.old) }
-    ensures { memory.new ≡ slot_written spelling rows.now sizes.r slot held memory.old }
+    ensures { memory.new ≡ slot_written N.spelling rows.now sizes.r slot held memory.old }
 {
     let Some(i) = held else {
         return;
@@ -66,7 +66,7 @@ fn write_slot<N: Kind>(
 /// The records of the rows that the first n slots hold, each in the field of its slot.
 fn write_records<N: Kind>(rows: &[Row<N>], slots: &[Option<u16>], sizes: Sizes, memory: &mut [u8])
     requires { (sizes.n ≤ length slots.now) × (seal_length sizes.n sizes.r ≤ length memory.old) }
-    ensures { memory.new ≡ records_written spelling rows.now slots.now sizes.r sizes.n memory.old }
+    ensures { memory.new ≡ records_written N.spelling rows.now slots.now sizes.r sizes.n memory.old }
 {
     let n = usize::from(sizes.n());
     for k in 0..n {
@@ -86,7 +86,7 @@ pub fn write_plate<N: Kind>(
     seed: Seed,
     memory: &mut [u8],
 ) -> Option<usize>
-    ensures { MatchOption result (SealRefused (seal_fits sizes.n sizes.r (length memory.old) (length vertices.now) (length slots.now)) memory.old memory.new) (λ k. SealWritten (seal_fits sizes.n sizes.r (length memory.old) (length vertices.now) (length slots.now)) number spelling sizes.n sizes.r seed.value rows.now vertices.now slots.now memory.old memory.new k) }
+    ensures { MatchOption result (SealRefused (seal_fits sizes.n sizes.r (length memory.old) (length vertices.now) (length slots.now)) memory.old memory.new) (λ k. SealWritten (seal_fits sizes.n sizes.r (length memory.old) (length vertices.now) (length slots.now)) N.number N.spelling sizes.n sizes.r seed.value rows.now vertices.now slots.now memory.old memory.new k) }
 {
     let n = usize::from(sizes.n());
     let r = usize::from(sizes.r());

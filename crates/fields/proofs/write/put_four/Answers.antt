@@ -12,5 +12,5 @@ returns c =
     let a : x / 65536 / 256 ≡ x / 16777216 = omega arith in
     let b : x % 65536 / 256 ≡ x / 256 % 256 = omega arith in
     let d : x % 65536 % 256 ≡ x % 256 = omega arith in
-    then at (at + 2) (two (x / 65536)) (two (x % 65536)) m c.put-two.ensures c.put-two-2.ensures (omega arith) (omega arith) ∙
+    then at (at + 2) (two (x / 65536)) (two (x % 65536)) m c.put_two.ensures c.put_two-2.ensures (omega arith) (omega arith) ∙
     (λ i. written at (a i ∷ x / 65536 % 256 ∷ b i ∷ d i ∷ []) m)

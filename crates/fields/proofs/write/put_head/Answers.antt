@@ -7,4 +7,4 @@ pub returns : goal.returns
 returns c =
     let d = c.args.memory.now in
     let at = c.args.at in
-    then at (at + 1) (c.args.tag ∷ []) (two c.args.len) d (set_written d at c.args.tag (omega arith)) c.put-two.ensures (omega arith) (omega arith)
+    then at (at + 1) (c.args.tag ∷ []) (two c.args.len) d (set_written d at c.args.tag (omega arith)) c.put_two.ensures (omega arith) (omega arith)

@@ -7,6 +7,6 @@ pub returns : goal.returns
 returns c =
     let d = c.args.memory.now in
     let at = c.args.at in
-    let o = c.bytes-of-bytes.result in
+    let o = c.bytes_of-bytes.result in
     then_set at (at + 1) (get_or o 1 0) (get_or o 0 0 ∷ []) d (set_written d at (get_or o 0 0) (omega arith)) (omega arith) (omega arith) ∙
-    (λ i. written at (get_or (c.bytes-of-bytes.ensures i) 0 0 ∷ get_or (c.bytes-of-bytes.ensures i) 1 0 ∷ []) d)
+    (λ i. written at (get_or (c.bytes_of-bytes.ensures i) 0 0 ∷ get_or (c.bytes_of-bytes.ensures i) 1 0 ∷ []) d)

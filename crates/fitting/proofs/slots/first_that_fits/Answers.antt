@@ -7,8 +7,8 @@ use Rattle.fitting.proofs.Placed.{no_name, offset_at, length_offsets}
 use Rattle.fitting.proofs.Trying.{alike_blocked, taken_blocked, empty_fits, none_fits, go_on, stop, run_out}
 use Rattle.fitting.proofs.slots.first_that_fits.Goals as goal
 
-pub are-apart-requires : goal.are-apart-requires
-are-apart-requires g c =
+pub are_apart-requires : goal.are_apart-requires
+are_apart-requires g c =
     let law = g.W.Way.laws c.args.way.now in
     (omega (arith, law.some, c.size.ensures), omega (arith, law.most, c.size.ensures))
 
@@ -18,11 +18,11 @@ trying-init g c =
     let e : n - 0 ≡ n = omega arith in
     (omega arith, λ filled are. ap (λ k. first_fit n (asked (g.W.Way.meaning c.args.way.now) c.args.number) filled (offsets c.args.level.now) k 0) e)
 
-pub returns-then-not-are-apart : goal.returns-then-not-are-apart
-returns-then-not-are-apart g c =
+pub returns-then-not-are_apart : goal.returns-then-not-are_apart
+returns-then-not-are_apart g c =
     let n = length c.args.slots.now in
     let bs = offsets c.args.level.now in
-    let no_apart : Apart n bs → ⊥ = c.if-not-are-apart.ensures.other refl in
+    let no_apart : Apart n bs → ⊥ = c.if-not-are_apart.ensures.other refl in
     record {
       other_size = λ _. refl;
       first = λ e filled are. sym (none_fits n (asked (g.W.Way.meaning c.args.way.now) c.args.number) filled bs (alike_blocked n bs filled no_apart) n 0);
@@ -44,13 +44,13 @@ trying-preserved g c =
     let some : 1 ≤ n = omega arith in (
       omega arith,
       λ filled are. go_on n (asked w c.args.number) filled bs c.trying.step (omega arith)
-          (ap (λ x. free filled (turned n x bs)) (sym c.rotation-v.ensures) ∙ taken_blocked n bs filled c.args.slots.now refl some are v k in_k (slot_read level c.args.slots.now n v k c.if-is-some.ensures))
+          (ap (λ x. free filled (turned n x bs)) (sym c.rotation-v.ensures) ∙ taken_blocked n bs filled c.args.slots.now refl some are v k in_k (slot_read level c.args.slots.now n v k c.if-is_some.ensures))
           (c.trying.invariant.1 filled are),
     )
 
 pub placing-preserved : goal.placing-preserved
 placing-preserved g c =
-    below_more _ _ c.placing.invariant (slot_read c.args.level.now c.args.slots.now (length c.args.slots.now) c.rotation-v.result c.placing.name-index c.if-is-some.ensures)
+    below_more _ _ c.placing.invariant (slot_read c.args.level.now c.args.slots.now (length c.args.slots.now) c.rotation-v.result c.placing.name-index c.if-is_some.ensures)
 
 pub returns : goal.returns
 returns g c =
@@ -61,7 +61,7 @@ returns g c =
     let v = c.rotation-v.result in
     let step = c.trying.step in
     let some : 1 ≤ n = omega arith in
-    let apart : Apart n bs = c.if-not-are-apart.ensures.yes refl in
+    let apart : Apart n bs = c.if-not-are_apart.ensures.yes refl in
     let is = c.rotation-v.ensures in
     record {
       other_size = λ no_size. absurd (no_size (sym c.size.ensures ∙ sym c.from.ensures ∙ c.if-from-n.false));

@@ -5,14 +5,14 @@ use Rattle.graph.proofs.Built.{past_edge}
 use Rattle.graph.proofs.Mapped.{fitted, turn_halves, turn_degrees, turn_graph, turn_past}
 use Rattle.graph.proofs.build.map_names.Goals as goal
 
-pub attach-edge-requires : goal.attach-edge-requires
-attach-edge-requires g c =
+pub attach_edge-requires : goal.attach_edge-requires
+attach_edge-requires g c =
     let l = c.loop-i in
     let e = c.r-r.ensures in
     let fit = fitted c.args.count c.r-r.result (length c.args.rows.now) (length c.args.tables.now) (length c.args.edges.now) (length c.args.vertices.now) (sym c.if-not-fits.ensures) in
     let lr : l.i < length c.args.rows.now = omega (arith, fit.rows_there) in
-    let h = turn_halves g.N.Kind.spelling g.met.N.Kind.spelling_from_1 g.met.N.Kind.spelling_to_16 c.args.tables.now c.args.sizes.n c.args.sizes.r c.args.rows.now l.i c.index-rows-i.result c.in-ok-triple.triple fit.tables_there lr c.in-ok-triple.ensures c.args.sizes.r_from_1 l.edges l.vertices l.invariant.0 in
-    let w = turn_degrees g.N.Kind.spelling g.met.N.Kind.spelling_from_1 g.met.N.Kind.spelling_to_16 c.args.tables.now c.args.sizes.n c.args.sizes.r c.args.rows.now l.i c.index-rows-i.result c.in-ok-triple.triple fit.tables_there lr c.in-ok-triple.ensures c.args.sizes.r_from_1 l.edges l.vertices l.invariant.0 in
+    let h = turn_halves g.N.Kind.spelling g.met.N.Kind.spelling_from_1 g.met.N.Kind.spelling_to_16 c.args.tables.now c.args.sizes.n c.args.sizes.r c.args.rows.now l.i c.index-rows-i.result c.in_ok-triple.triple fit.tables_there lr c.in_ok-triple.ensures c.args.sizes.r_from_1 l.edges l.vertices l.invariant.0 in
+    let w = turn_degrees g.N.Kind.spelling g.met.N.Kind.spelling_from_1 g.met.N.Kind.spelling_to_16 c.args.tables.now c.args.sizes.n c.args.sizes.r c.args.rows.now l.i c.index-rows-i.result c.in_ok-triple.triple fit.tables_there lr c.in_ok-triple.ensures c.args.sizes.r_from_1 l.edges l.vertices l.invariant.0 in
     record {
       places = (omega (arith, fit.edges_there), omega (arith, fit.few), omega (arith, h.low, h.high), omega (arith, h.below, fit.vertices_there));
       degrees = (omega (arith, w.0, fit.few), omega (arith, w.1, fit.few));
@@ -24,10 +24,10 @@ loop-i-preserved g c =
     let e = c.r-r.ensures in
     let fit = fitted c.args.count c.r-r.result (length c.args.rows.now) (length c.args.tables.now) (length c.args.edges.now) (length c.args.vertices.now) (sym c.if-not-fits.ensures) in
     let lr : l.i < length c.args.rows.now = omega (arith, fit.rows_there) in
-    let a = c.attach-edge.ensures in (
-      turn_graph g.N.Kind.spelling g.met.N.Kind.spelling_from_1 g.met.N.Kind.spelling_to_16 c.args.tables.now c.args.sizes.n c.args.sizes.r c.args.rows.now l.i c.index-rows-i.result c.in-ok-triple.triple fit.tables_there lr c.in-ok-triple.ensures c.args.sizes.r_from_1 l.edges l.vertices l.invariant.0 (omega (arith, fit.vertices_there)) (omega (arith, fit.edges_there)) _ _ a.edge a.leads,
+    let a = c.attach_edge.ensures in (
+      turn_graph g.N.Kind.spelling g.met.N.Kind.spelling_from_1 g.met.N.Kind.spelling_to_16 c.args.tables.now c.args.sizes.n c.args.sizes.r c.args.rows.now l.i c.index-rows-i.result c.in_ok-triple.triple fit.tables_there lr c.in_ok-triple.ensures c.args.sizes.r_from_1 l.edges l.vertices l.invariant.0 (omega (arith, fit.vertices_there)) (omega (arith, fit.edges_there)) _ _ a.edge a.leads,
       past_edge c.args.count l.i l.edges _ _ a.edge c.loop-i-test.true ∙ l.invariant.1,
-      turn_past g.N.Kind.spelling g.met.N.Kind.spelling_from_1 g.met.N.Kind.spelling_to_16 c.args.tables.now c.args.sizes.n c.args.sizes.r c.args.rows.now l.i c.index-rows-i.result c.in-ok-triple.triple fit.tables_there lr c.in-ok-triple.ensures c.args.sizes.r_from_1 l.edges l.vertices l.invariant.0 _ a.leads ∙ l.invariant.2,
+      turn_past g.N.Kind.spelling g.met.N.Kind.spelling_from_1 g.met.N.Kind.spelling_to_16 c.args.tables.now c.args.sizes.n c.args.sizes.r c.args.rows.now l.i c.index-rows-i.result c.in_ok-triple.triple fit.tables_there lr c.in_ok-triple.ensures c.args.sizes.r_from_1 l.edges l.vertices l.invariant.0 _ a.leads ∙ l.invariant.2,
     )
 
 pub returns : goal.returns

@@ -30,5 +30,5 @@ returns c =
     let long : leb 12288 (length t) ≡ true = le-leb 12288 (length t) (omega arith) in record {
       answer = record { is = sym (ap (λ b. with_value (first (unless b ShortTables ∷ [])) tt) long) };
       memory = full c ∙ sym (cond-true (leb 12288 (length t)) _ _ long);
-      drawn-in-range = λ h k l. subst (λ (m : List ℕ). (1 ≤ get_or m k 0) × (get_or m k 0 ≤ 2147483646)) (sym (full c)) (tables_in_range x.value (drop 12288 t) (x.low, x.high) k l);
+      drawn_in_range = λ h k l. subst (λ (m : List ℕ). (1 ≤ get_or m k 0) × (get_or m k 0 ≤ 2147483646)) (sym (full c)) (tables_in_range x.value (drop 12288 t) (x.low, x.high) k l);
     }

@@ -13,24 +13,24 @@ loop-at-preserved c =
     let vertices = c.args.vertices.now in
     let p = c.loop-at-test.true in
     let b = c.if-at-bound.true in
-    elim c.match-offset-by.branch [
+    elim c.match-offset_by.branch [
       | goal.in-Some w ↦ (
         omega (arith, w.k-is),
         λ es values en g placed have.
             let i = l.invariant.1 es values en g placed have in
             let is = offset_taken es r edges vertices g v l.bound l.at i.leads p b (omega arith) values n c.args.level placed have
-            c.far.result c.offset-by.result w.in-Some.offset c.far.ensures c.offset-by.ensures w.in-Some.is in
+            c.far.result c.offset_by.result w.in-Some.offset c.far.ensures c.offset_by.ensures w.in-Some.is in
             simp (w.k-is, w.names-is)
             (walk_takes es n values (take c.args.level (order es r)) v l.names l.bound l.at l.k i c.onward-at.result _ p b (omega arith)
             is.0 (ap (λ o. record { row = l.at - 1; offset = o }) is.1)
             (c.onward-at.ensures ∙ onward_leads es r edges vertices g v l.bound l.at i.leads p b (omega arith))),
       )
-      | goal.in-default w ↦ (
+      | goal.in_default w ↦ (
         omega (arith, w.k-is),
         λ es values en g placed have.
             let i = l.invariant.1 es values en g placed have in
             let is = offset_passed es r edges vertices g v l.bound l.at i.leads p b (omega arith) values n c.args.level placed have
-            c.far.result c.offset-by.result c.far.ensures c.offset-by.ensures w.in-default.is in
+            c.far.result c.offset_by.result c.far.ensures c.offset_by.ensures w.in_default.is in
             simp (w.k-is, w.names-is)
             (walk_passes es n values (take c.args.level (order es r)) v l.names l.bound l.at l.k i c.onward-at.result p b is
             (c.onward-at.ensures ∙ onward_leads es r edges vertices g v l.bound l.at i.leads p b (omega arith))),

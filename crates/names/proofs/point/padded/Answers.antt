@@ -4,8 +4,8 @@ use Rattle.names.proofs.point.padded.Goals as goal
 
 pub returns : goal.returns
 returns c =
-    let is = c.copy-from-slice.ensures.after in
-    let long : length c.copy-from-slice.new.self ≡ length c.args.bytes.now = ap length is in record {
+    let is = c.copy_from_slice.ensures.after in
+    let long : length c.copy_from_slice.new.self ≡ length c.args.bytes.now = ap length is in record {
       whole = simp (length-append, length-drop) (omega arith);
-      kept = take_at c.copy-from-slice.new.self _ (length c.args.bytes.now) long ∙ is;
+      kept = take_at c.copy_from_slice.new.self _ (length c.args.bytes.now) long ∙ is;
     }

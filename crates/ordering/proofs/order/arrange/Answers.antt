@@ -68,8 +68,8 @@ returns-after-loop-k c =
           in_order es r edges l.ordered l.k l.vertices _ h lk w (all_taken es r edges l.ordered l.k l.vertices _ h lk w c.loop-k-test.false l.invariant.0);
     }
 
-pub returns-in-default : goal.returns-in-default
-returns-in-default c =
+pub returns-in_default : goal.returns-in_default
+returns-in_default c =
     let l = c.loop-k in
     let r = c.args.r in
     let edges = c.args.edges.now in
@@ -84,5 +84,5 @@ returns-in-default c =
           let g0 = graph_kept es r edges c.args.vertices.now c.reset.new.vertices b0.first b0.degree g in
           let h = graph_kept es r edges c.args.vertices.now l.vertices b.first b.degree g in
           let w = l.invariant.6 es en g0 in
-          in_order es r edges l.ordered l.k l.vertices _ h lk w (c.in-default.ensures.chosen es (take l.k l.ordered) (graph_weighs es r edges l.vertices h) w.queued);
+          in_order es r edges l.ordered l.k l.vertices _ h lk w (c.in_default.ensures.chosen es (take l.k l.ordered) (graph_weighs es r edges l.vertices h) w.queued);
     }

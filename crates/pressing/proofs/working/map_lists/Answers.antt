@@ -4,8 +4,8 @@ use Rattle.runs.specs.declared.fault.PressFault.TheVariants.{Clash}
 use Rattle.pressing.proofs.Worked.{never_short, map_worked}
 use Rattle.pressing.proofs.working.map_lists.Goals as goal
 
-pub returns-in-err-fill : goal.returns-in-err-fill
-returns-in-err-fill g c = absurd (never_short c.args.tables.now _ _ c.requires.1 c.fill.ensures.answer c.in-err-fill.was)
+pub returns-in_err-fill : goal.returns-in_err-fill
+returns-in_err-fill g c = absurd (never_short c.args.tables.now _ _ c.requires.1 c.fill.ensures.answer c.in_err-fill.was)
 
 pub returns-then-clashes : goal.returns-then-clashes
 returns-then-clashes g c =

@@ -6,4 +6,4 @@ pub returns : goal.returns
 returns g c =
     all_written g.N.Kind.spelling g.met.N.Kind.spelling_to_16 g.N.Kind.number c.args.sizes.n c.args.sizes.r c.args.seed.value c.args.rows.now c.args.vertices.now c.args.slots.now
     c.from-n.result c.from-r.result c.string-length.result (c.from-n.ensures ∙ c.n.ensures) (c.from-r.ensures ∙ c.r.ensures) c.if-not-fits.ensures
-    c.write-front.ensures c.write-values.ensures c.write-records.ensures c.string-length.ensures
+    c.write_front.ensures c.write_values.ensures c.write_records.ensures c.string-length.ensures

@@ -4,7 +4,7 @@ use Rattle.sealing.proofs.write.write_records.Goals as goal
 
 pub loop-k-preserved : goal.loop-k-preserved
 loop-k-preserved g c =
-    record_more g.N.Kind.spelling c.args.rows.now c.args.slots.now c.args.sizes.r c.loop-k.k c.args.memory.now c.loop-k.invariant c.write-slot.ensures
+    record_more g.N.Kind.spelling c.args.rows.now c.args.slots.now c.args.sizes.r c.loop-k.k c.args.memory.now c.loop-k.invariant c.write_slot.ensures
 
 pub returns : goal.returns
 returns g c =

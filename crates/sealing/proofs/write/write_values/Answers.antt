@@ -4,7 +4,7 @@ use Rattle.sealing.proofs.Turns.{value_more}
 use Rattle.sealing.proofs.write.write_values.Goals as goal
 
 pub loop-v-preserved : goal.loop-v-preserved
-loop-v-preserved c = value_more c.loop-v.memory c.args.vertices.now c.loop-v.v c.args.memory.now (omega arith) (omega arith) c.loop-v.invariant c.write-value.ensures.memory
+loop-v-preserved c = value_more c.loop-v.memory c.args.vertices.now c.loop-v.v c.args.memory.now (omega arith) (omega arith) c.loop-v.invariant c.write_value.ensures.memory
 
 pub returns : goal.returns
 returns c =
