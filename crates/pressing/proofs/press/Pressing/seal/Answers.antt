@@ -23,5 +23,5 @@ returns-in_err-len g c =
 pub returns : goal.returns
 returns g c =
     let s = c.in_ok-sizes.ensures.1 in
-    step.accepted _ _ _ _ _ (sym c.after.ensures ∙ c.in_ok-next.was) c.if-not-are_ample.ensures s.0 s.1 c.in_ok-seed.ensures.1 _ _ c.in_ok-len.ensures.ok-part
+    step.accepted _ _ _ _ _ (sym c.after.ensures ∙ c.in_ok-next.was) c.if-not-are_ample.ensures s.0 s.1 c.in_ok-seed.ensures.1 _ _ c.in_ok-len.ensures.ok_part
     c.write_plate-written.ensures _ refl refl refl (record { r = refl; seed = refl; level = refl })
