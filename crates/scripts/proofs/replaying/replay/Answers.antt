@@ -19,8 +19,8 @@ loop-i-preserved g c =
     let place : c.loop-i.i < length c.loop-i.answers = omega (arith, c.loop-i-test.true, c.if-answers-script.false, c.loop-i.auto.answers) in
     let same : lent (memory c.loop-i.rows c.loop-i.tables c.loop-i.edges c.loop-i.vertices c.loop-i.heap c.loop-i.ordered c.loop-i.slots) ≡ lent (memory c.args.lists.rows.now c.args.lists.tables.now c.args.lists.edges.now c.args.lists.vertices.now c.args.lists.heap.now c.args.lists.ordered.now c.args.lists.slots.now) =
     λ j. record { rows = k.rows j; tables = k.tables j; edges = k.edges j; vertices = k.vertices j; heap = k.heap j; ordered = k.ordered j; slots = k.slots j } in (
-      λ m h. one_more _ _ _ _ _ _ m c.loop-i.i c.index-script-i.result c.loop-i.answers c.loop-i-test.true place c.index-script-i.is same k.string c.take-step.ensures (c.loop-i.invariant.0 m h),
-      drop-set-lt (length c.args.script.now) c.loop-i.answers c.loop-i.i c.take-step.result c.loop-i-test.true ∙ c.loop-i.invariant.1,
+      λ m h. one_more _ _ _ _ _ _ m c.loop-i.i c.index-script-i.result c.loop-i.answers c.loop-i-test.true place c.index-script-i.is same k.string c.take_step.ensures (c.loop-i.invariant.0 m h),
+      drop-set-lt (length c.args.script.now) c.loop-i.answers c.loop-i.i c.take_step.result c.loop-i-test.true ∙ c.loop-i.invariant.1,
     )
 
 pub returns : goal.returns
