@@ -1,5 +1,5 @@
 -- One write after the other.
-use Rattle.std.proofs.Common.{◌≡◌, ℕ, suc, ◌+◌, ◌-◌, ◌<◌, ◌≤◌, List, [], ◌∷◌, ◌++◌, length, take, drop, set, sym, refl, ap, ◌∙◌, inl, inr, append_assoc, add-one, arith, length-append, length-drop}
+use Rattle.std.proofs.Common.{◌≡◌, ℕ, ◌+◌, ◌-◌, ◌<◌, ◌≤◌, List, [], ◌∷◌, ◌++◌, length, take, drop, set, sym, refl, ap, ◌∙◌, inl, inr, append_assoc, add-one, arith, length-append, length-drop}
 use Rattle.std.proofs.lemmas.List.{set_split, take_at, drop_at, drop-drop, drop-take, length-take-le, take-append-le, take-take, take-append-drop}
 use Rattle.fields.specs.Writing.{written, Shows, Spares}
 

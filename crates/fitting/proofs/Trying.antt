@@ -1,11 +1,11 @@
 -- The search for the first rotation that fits, step by step.
-use Rattle.std.proofs.Common.{◌≡◌, ℕ, zero, suc, ◌+◌, ◌-◌, ◌*◌, ◌/◌, ◌%◌, ◌<◌, ◌≤◌, Bool, true, false, cond, List, [], ◌∷◌, length, get_or, is_some, Some, None, Option, sym, refl, ap, ◌∙◌, inl, inr, mod-lt, add-one, arith}
+use Rattle.std.proofs.Common.{◌≡◌, ℕ, zero, suc, ◌+◌, ◌-◌, ◌/◌, ◌%◌, ◌<◌, ◌≤◌, Bool, true, false, cond, List, length, get_or, is_some, Some, None, Option, sym, refl, ap, ◌∙◌, inl, inr, mod-lt, add-one, arith}
 use native.Mathlib.Nat.{div-add-mod, mod-add-mod}
-use Rattle.std.proofs.lemmas.Bool.{cases_Bool, both_ways}
+use Rattle.std.proofs.lemmas.Bool.{cases_Bool}
 use Rattle.std.proofs.lemmas.List.{get_or-map, length-map}
 use Rattle.ways.specs.Coprime.{same_mod}
 use Rattle.runs.specs.Lists.{among, Distinct}
-use Rattle.runs.specs.Fitting.{turned, free, AllFree, Blocked, first_fit}
+use Rattle.runs.specs.Fitting.{turned, free, first_fit}
 use Rattle.runs.proofs.Fits.{free_exactly, blocked_exactly}
 use Rattle.fitting.specs.Placing.{Apart, FilledAre}
 

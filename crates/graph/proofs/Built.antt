@@ -4,7 +4,7 @@ use Rattle.std.proofs.lemmas.Bool.{cases_eq, ne_eqb, eq-eqb, or_left, or_right, 
 use Rattle.std.proofs.lemmas.List.{length_push, get_or_push, get_or-set_same, get_or-set_other, length-set, drop-set-lt}
 use Rattle.std.proofs.ByRecursion.{All-push}
 use Rattle.hashing.specs.Triples.{Triple}
-use Rattle.runs.specs.Order.{touches, degree}
+use Rattle.runs.specs.Order.{touches}
 use Rattle.runs.proofs.Times.{one_true, one_false}
 use Rattle.graph.specs.declared.rows.Edge.{Edge}
 use Rattle.graph.specs.declared.rows.Vertex.{Vertex}

@@ -1,5 +1,5 @@
 -- What hashing refuses, with the number of each refusal.
-use Rattle.std.specs.Prelude.{ℕ, List, [], ◌∷◌, Option, nat_le}
+use Rattle.std.specs.Prelude.{ℕ, [], ◌∷◌, Option, nat_le}
 use Rattle.refusals.specs.Checks.{unless, first}
 use Rattle.names.specs.Spellings.{in_range}
 use Rattle.hashing.specs.declared.fault.HashFault.{HashFault}

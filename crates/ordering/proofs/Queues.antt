@@ -9,7 +9,6 @@ use Rattle.std.proofs.lemmas.List.Sums.{sum_by-cons}
 use Rattle.std.proofs.lemmas.List.Sorted.{sum_by-IsPermutation}
 use Rattle.heap.specs.Order.{Pushed}
 use Rattle.orders.specs.declared.waiting.Waiting.{Waiting}
-use Rattle.runs.specs.Order.{degree}
 use Rattle.runs.proofs.Times.{one_le, one_true, one_false, times, Apart, tally_all, tally_le}
 use Rattle.graph.specs.declared.rows.Vertex.{Vertex}
 use Rattle.graph.specs.declared.rows.Place.{Place}

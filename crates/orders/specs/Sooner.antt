@@ -1,4 +1,4 @@
-use Rattle.std.specs.Prelude.{Bool, true, false, cond, ◌==◌, nat_lt}
+use Rattle.std.specs.Prelude.{Bool, cond, ◌==◌, nat_lt}
 use Rattle.orders.specs.declared.waiting.Waiting.{Waiting}
 
 -- a has the greater degree, or the same and the lower number

@@ -1,7 +1,7 @@
 -- Entering a name, at each of its exits; and reopening.
-use Rattle.std.proofs.Common.{◌≡◌, ℕ, ◌+◌, ◌<◌, ◌≤◌, Bool, true, false, not, ◌&&◌, ltb, List, [], ◌∷◌, ◌++◌, map, length, take, set, Some, None, Ok, Err, Option, Result, sym, refl, ap, ◌∙◌, subst, arith}
+use Rattle.std.proofs.Common.{◌≡◌, ℕ, ◌+◌, ◌<◌, ◌≤◌, Bool, true, false, not, ltb, List, [], ◌∷◌, ◌++◌, map, length, take, set, Some, None, Ok, Err, Option, Result, sym, refl, ap, ◌∙◌, subst, arith}
 use Rattle.std.specs.Str.{bytes_eq}
-use Rattle.std.proofs.lemmas.List.{take_more_set, length-set, length_push, map_push, take-map}
+use Rattle.std.proofs.lemmas.List.{take_more_set, length-set, length_push, map_push}
 use Rattle.std.proofs.lemmas.Simd.{map-map}
 use Rattle.std.proofs.lemmas.Bool.{lt-ltb, le-ltb, not_from_true, not_from_false}
 use Rattle.refusals.specs.Checks.{unless, or, first}
@@ -17,11 +17,11 @@ use Rattle.runs.specs.Runs.{ample, Run, enter, reopen, is, rank, count, spelling
 use Rattle.pressing.specs.declared.press.Pressing.{Pressing}
 use Rattle.pressing.specs.declared.stage.Event.TheVariants.{Enter, Reopen}
 use Rattle.pressing.specs.Memory.{Memory, lent, with_row}
-use Rattle.pressing.specs.Stages.{belongs, leads, next_stage}
-use Rattle.pressing.specs.Left.{as_row, Kept, Held, Left, Done}
+use Rattle.pressing.specs.Stages.{belongs, next_stage}
+use Rattle.pressing.specs.Left.{as_row, Kept, Held, Left}
 use Rattle.pressing.specs.Calls.{enter_gate, reopen_gate, EnterDone, ReopenDone}
 use Rattle.pressing.proofs.Room.{ample_all}
-use Rattle.pressing.proofs.Steps.{stops, goes, first_behind, or_none, Passed, stage_passed, stage_refused, by_gate, by_lists, by_acceptance}
+use Rattle.pressing.proofs.Steps.{stops, goes, first_behind, or_none, stage_passed, stage_refused, by_gate, by_lists, by_acceptance}
 
 -- what the pressing keeps beside its stage is as it was
 pub record Moved {N : Type 0} (p p' : Pressing N) : Type 0 where

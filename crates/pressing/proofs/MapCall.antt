@@ -1,9 +1,9 @@
 -- Mapping, at each of its exits.
-use Rattle.std.proofs.Common.{◌≡◌, ℕ, ◌+◌, ◌*◌, ◌<◌, ◌≤◌, Bool, true, false, not, ◌&&◌, ltb, leb, ◌⊎◌, List, [], ◌∷◌, ◌++◌, map, length, take, drop, is_ok, Some, None, Ok, Err, Option, Result, sym, refl, ap, ◌∙◌, subst, inl, inr, arith}
+use Rattle.std.proofs.Common.{◌≡◌, ℕ, Bool, true, false, not, ◌&&◌, ltb, leb, ◌⊎◌, List, [], ◌∷◌, map, length, take, drop, Some, None, Ok, Err, Option, Result, sym, refl, ap, ◌∙◌, subst, inl, inr, arith}
 use Rattle.std.proofs.lemmas.List.{take-append-le, take_all}
 use Rattle.std.proofs.lemmas.Simd.{map-map}
-use Rattle.std.proofs.lemmas.Bool.{lt-ltb, le-ltb, le-leb, lt-leb, leb-true, and_parts, and_from, both_ways, not_from_true, not_from_false}
-use Rattle.refusals.specs.Checks.{unless, or, first, with_value, Answered}
+use Rattle.std.proofs.lemmas.Bool.{le-leb, both_ways, not_from_true, not_from_false}
+use Rattle.refusals.specs.Checks.{unless, or, first, with_value}
 use Rattle.names.specs.Spellings.{in_range}
 use Rattle.hashing.specs.declared.fault.HashFault.{HashFault}
 use Rattle.hashing.specs.declared.fault.HashFault.TheVariants as hash
@@ -17,20 +17,20 @@ use Rattle.graph.specs.declared.rows.Vertex.{Vertex}
 use Rattle.graph.specs.Chains.{Graph, clashes}
 use Rattle.graph.specs.Mapping.{row_triple, row_triples}
 use Rattle.runs.specs.declared.stage.Stage.{Stage}
-use Rattle.runs.specs.declared.stage.Stage.TheVariants.{Open, Mapped}
+use Rattle.runs.specs.declared.stage.Stage.TheVariants.{Open}
 use Rattle.runs.specs.declared.fault.PressFault.{PressFault}
-use Rattle.runs.specs.declared.fault.PressFault.TheVariants.{WrongStage, ShortList, TooManyNames, NoName, VertexCount, Seed, Clash}
+use Rattle.runs.specs.declared.fault.PressFault.TheVariants.{WrongStage, ShortList, NoName, VertexCount, Seed, Clash}
 use Rattle.runs.specs.declared.answer.Answer.{Answer}
 use Rattle.runs.specs.declared.answer.Answer.TheVariants as answered
 use Rattle.runs.specs.Faults.{of_hashing}
 use Rattle.runs.specs.Lists.{repeats}
-use Rattle.runs.specs.Runs.{ample, Lent, Call, Run, map_to, is, rank, count, triples, same_triple, with_map, refusal}
+use Rattle.runs.specs.Runs.{ample, Run, map_to, is, count, triples, same_triple, with_map, refusal}
 use Rattle.runs.proofs.Standing.{is_true}
 use Rattle.pressing.specs.declared.press.Pressing.{Pressing}
 use Rattle.pressing.specs.declared.stage.Event.TheVariants.{Map}
 use Rattle.pressing.specs.Memory.{Memory, lent}
 use Rattle.pressing.specs.Stages.{belongs, next_stage}
-use Rattle.pressing.specs.Left.{as_row, Kept, Held, MappedLists, Left, Done}
+use Rattle.pressing.specs.Left.{as_row, Kept, Held, Left}
 use Rattle.pressing.specs.Work.{MapWorked}
 use Rattle.pressing.specs.Calls.{map_gate, MapWrote, MapDone}
 use Rattle.pressing.proofs.Steps.{stops, goes, first_behind, stage_passed, stage_refused, by_gate, by_lists, by_acceptance}

@@ -1,5 +1,5 @@
 -- Ordering, at each of its exits.
-use Rattle.std.proofs.Common.{◌≡◌, ℕ, zero, suc, ◌+◌, ◌*◌, ◌<◌, ◌≤◌, Bool, true, false, List, [], ◌∷◌, ◌++◌, map, length, get_or, take, drop, replicate, Some, None, Ok, Err, Option, Result, sym, refl, ap, ◌∙◌, subst, arith}
+use Rattle.std.proofs.Common.{◌≡◌, ℕ, zero, suc, ◌+◌, ◌*◌, ◌<◌, ◌≤◌, true, false, List, [], ◌∷◌, map, length, get_or, take, drop, replicate, Some, None, Ok, Err, Option, Result, sym, refl, ap, ◌∙◌, subst, arith}
 use Rattle.std.specs.List.{range_with_len}
 use Rattle.std.proofs.lemmas.List.{take-append-le, take_all, length-replicate, get_or-replicate}
 use Rattle.refusals.specs.Checks.{unless, or, first}
@@ -7,24 +7,24 @@ use Rattle.hashing.specs.Triples.{Triple}
 use Rattle.graph.specs.declared.rows.Edge.{Edge}
 use Rattle.graph.specs.declared.rows.Vertex.{Vertex}
 use Rattle.orders.specs.declared.waiting.Waiting.{Waiting}
-use Rattle.graph.specs.Chains.{Graph, nil, row}
+use Rattle.graph.specs.Chains.{Graph, row}
 use Rattle.ordering.specs.Queue.{OrderedGraph}
 use Rattle.leveling.specs.Level.{first_where, fills, filler, slot_rows}
 use Rattle.runs.specs.declared.stage.Stage.{Stage}
-use Rattle.runs.specs.declared.stage.Stage.TheVariants.{Mapped, Ordered}
+use Rattle.runs.specs.declared.stage.Stage.TheVariants.{Mapped}
 use Rattle.runs.specs.declared.fault.PressFault.{PressFault}
 use Rattle.runs.specs.declared.fault.PressFault.TheVariants.{WrongStage, ShortList}
 use Rattle.runs.specs.declared.answer.Answer.{Answer}
 use Rattle.runs.specs.declared.answer.Answer.TheVariants as answered
-use Rattle.runs.specs.Runs.{ample, Lent, Run, order_by, is, rank, count, graph, vertex_order, with_order, refusal}
+use Rattle.runs.specs.Runs.{ample, Run, order_by, is, rank, count, graph, vertex_order, with_order, refusal}
 use Rattle.runs.proofs.Standing.{is_true, length_graph}
 use Rattle.pressing.specs.declared.press.Pressing.{Pressing}
 use Rattle.pressing.specs.declared.stage.Event.TheVariants.{Order}
 use Rattle.pressing.specs.Memory.{Memory, lent}
 use Rattle.pressing.specs.Stages.{belongs, next_stage}
-use Rattle.pressing.specs.Left.{as_row, Kept, Held, OrderedLists, Left, Done}
+use Rattle.pressing.specs.Left.{Kept, Held, Left}
 use Rattle.pressing.specs.Work.{OrderWorked}
-use Rattle.pressing.specs.Calls.{order_gate, OrderWrote, OrderDone}
+use Rattle.pressing.specs.Calls.{order_gate, OrderDone}
 use Rattle.pressing.proofs.Steps.{stops, goes, or_none, stage_passed, stage_refused, by_gate, by_acceptance}
 
 -- before the first fit every slot is empty

@@ -1,6 +1,5 @@
 -- What a call promises, from the checks that it made. Assumes nothing.
-use Rattle.std.proofs.Common.{◌≡◌, ℕ, Bool, true, false, List, [], ◌∷◌, ◌++◌, is_err, Some, None, Ok, Err, Option, Result, sym, refl, ap, ◌∙◌, subst, arith}
-use Rattle.std.specs.List.{AllByRecursion as All}
+use Rattle.std.proofs.Common.{◌≡◌, ℕ, Bool, true, false, List, [], ◌∷◌, ◌++◌, Some, None, Ok, Err, Option, sym, refl, ap, ◌∙◌, subst, arith}
 use Rattle.std.proofs.ByRecursion.{All-push}
 use Rattle.std.proofs.lemmas.Bool.{both_ways}
 use Rattle.refusals.specs.Checks.{unless, or, first, with_value}
@@ -9,14 +8,14 @@ use Rattle.runs.specs.declared.fault.PressFault.{PressFault}
 use Rattle.runs.specs.declared.fault.PressFault.TheVariants.{WrongStage}
 use Rattle.runs.specs.declared.answer.Answer.{Answer}
 use Rattle.runs.specs.declared.answer.Answer.TheVariants.{Refused}
-use Rattle.runs.specs.Runs.{ample, Call, Run, refusal, unless_refused, accepted, step, continued, beginning, reckoned, answer_accepted, answer}
+use Rattle.runs.specs.Runs.{ample, Call, Run, refusal, unless_refused, accepted, step, continued, beginning, answer_accepted, answer}
 use Rattle.runs.specs.Laws.{Sound}
 use Rattle.runs.proofs.Standing.{Stands, stands}
 use Rattle.pressing.specs.declared.press.Pressing.{Pressing}
 use Rattle.pressing.specs.declared.stage.Event.{Event}
 use Rattle.pressing.specs.Memory.{Memory, lent}
 use Rattle.pressing.specs.Stages.{belongs, leads, next_stage}
-use Rattle.pressing.specs.Left.{IsRun, Kept, Held, Left, as_answer, Gated, Done}
+use Rattle.pressing.specs.Left.{IsRun, Kept, Held, Left, Done}
 
 -- 1. checks one after the other
 

@@ -1,5 +1,5 @@
 -- The work of map and order over lists that are long enough.
-use Rattle.std.proofs.Common.{◌≡◌, ℕ, ◌+◌, ◌*◌, ◌<◌, ◌≤◌, Bool, true, false, cond, not, leb, List, [], ◌∷◌, ◌++◌, length, get_or, take, drop, set, replicate, Some, None, Ok, Err, Option, Result, sym, refl, ap, ◌∙◌, subst, arith}
+use Rattle.std.proofs.Common.{◌≡◌, ℕ, ◌+◌, ◌<◌, ◌≤◌, Bool, not, leb, List, [], ◌∷◌, ◌++◌, length, get_or, take, drop, set, replicate, Ok, Err, Result, sym, ap, ◌∙◌, subst, arith}
 use Rattle.std.proofs.lemmas.List.{set_at, drop_more, replicate_more, length-replicate, append_assoc, take-append-le, take_all, length-map, length-take-le}
 use Rattle.std.proofs.lemmas.Bool.{cond-true, le-leb}
 use Rattle.refusals.specs.Checks.{unless, first, with_value, Told}
@@ -14,7 +14,7 @@ use Rattle.graph.specs.declared.rows.Row.{Row}
 use Rattle.graph.specs.declared.rows.Edge.{Edge}
 use Rattle.graph.specs.declared.rows.Vertex.{Vertex}
 use Rattle.graph.specs.Chains.{Edges, Graph, clashes}
-use Rattle.graph.specs.Mapping.{row_triples, map_fits, MapWritten}
+use Rattle.graph.specs.Mapping.{row_triples, MapWritten}
 use Rattle.runs.specs.declared.fault.PressFault.{PressFault}
 use Rattle.runs.specs.declared.fault.PressFault.TheVariants.{Clash}
 use Rattle.pressing.specs.Work.{MapWorked}

@@ -11,7 +11,7 @@ use Rattle.runs.specs.declared.answer.Answer.{Answer}
 use Rattle.runs.specs.declared.answer.Answer.TheVariants as answered
 use Rattle.ways.specs.Permutation.{Meaning}
 use Rattle.leveling.specs.Level.{valued}
-use Rattle.runs.specs.Runs.{ample, Call, Run, enter, map_to, order_by, fit, reopen, seal, sealed_string}
+use Rattle.runs.specs.Runs.{ample, Run, enter, map_to, order_by, fit, reopen, seal, sealed_string}
 use Rattle.pressing.specs.declared.answer.Fit.{Fit as FitAnswer}
 use Rattle.pressing.specs.declared.press.Pressing.{Pressing}
 use Rattle.pressing.specs.declared.stage.Event.TheVariants.{Enter, Map, Order, Fit, Seal, Reopen}

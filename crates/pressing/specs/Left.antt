@@ -9,7 +9,7 @@ use Rattle.runs.specs.declared.stage.Stage.TheVariants.{Mapped, Ordered}
 use Rattle.runs.specs.declared.fault.PressFault.{PressFault}
 use Rattle.runs.specs.declared.answer.Answer.{Answer}
 use Rattle.runs.specs.declared.answer.Answer.TheVariants.{Refused}
-use Rattle.runs.specs.Runs.{Lent, ample, Call, Run, rank, count, graph as graph_of, vertex_order, earlier, step, reckoned, answer}
+use Rattle.runs.specs.Runs.{ample, Call, Run, rank, count, graph as graph_of, vertex_order, earlier, step, reckoned, answer}
 use Rattle.runs.specs.Laws.{Sound}
 use Rattle.pressing.specs.declared.press.Pressing.{Pressing}
 use Rattle.pressing.specs.Memory.{Memory, lent}

@@ -1,8 +1,8 @@
 -- The first broken check refuses.
-use Rattle.std.proofs.Common.{◌≡◌, ℕ, zero, suc, ◌+◌, ◌<◌, ◌≤◌, List, [], ◌∷◌, length, get_or, Some, None, Option, sym, refl, ap, ◌∙◌, inl, inr, arith}
+use Rattle.std.proofs.Common.{◌≡◌, ℕ, zero, suc, ◌+◌, ◌<◌, ◌≤◌, List, [], ◌∷◌, get_or, Some, None, Option, sym, refl, ap, ◌∙◌, inl, inr, arith}
 use Rattle.std.proofs.lemmas.Bool.{cases_eq}
 use Rattle.refusals.specs.Checks.{or, first, each}
-use Rattle.refusals.specs.Laws.{RefusedBy, Lowest, FirstBrokenRefuses, LowestBrokenRefuses, AllMet}
+use Rattle.refusals.specs.Laws.{RefusedBy, Lowest}
 
 module _ {F : Type 0} where
   shifted : (os : List (Option F)) (w : ℕ) → ((j : ℕ) → j < w → get_or os j None ≡ None) → (j : ℕ) → j < suc w → get_or (None ∷ os) j None ≡ None

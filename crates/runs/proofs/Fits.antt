@@ -3,7 +3,7 @@ use Rattle.std.proofs.Common.{◌≡◌, ℕ, zero, suc, ◌+◌, ◌<◌, ◌�
 use Rattle.std.proofs.lemmas.Bool.{eqb-true, eq-eqb, ne_eqb, cases_Bool, cases_eq, and_parts, and_cases, not-true, not-false, both_ways, or_cases}
 use Rattle.runs.specs.Lists.{among, repeats}
 use Rattle.runs.specs.Fitting.{turned, free, AllFree, Blocked, first_fit}
-use Rattle.runs.proofs.Times.{one, one_le, one_false, times, times_not_among}
+use Rattle.runs.proofs.Times.{one_le, one_false, times, times_not_among}
 use Rattle.runs.proofs.Distinct.{repeats_false}
 
 -- what is among numbers stands at a place

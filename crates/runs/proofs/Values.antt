@@ -6,7 +6,7 @@ use Rattle.std.proofs.lemmas.List.{get_or-set_same, get_or-set_other, append-nil
 use Rattle.std.proofs.ByRecursion.{All-get_or, All-push}
 use Rattle.ways.specs.Permutation.{Meaning, Permutes}
 use Rattle.runs.specs.declared.stage.Stage.{Stage}
-use Rattle.runs.specs.declared.stage.Stage.TheVariants.{Open, Mapped, Ordered, Fitted, Sealed}
+use Rattle.runs.specs.declared.stage.Stage.TheVariants.{Open, Mapped, Ordered, Sealed}
 use Rattle.runs.specs.declared.fault.PressFault.{PressFault}
 use Rattle.runs.specs.declared.answer.Answer.TheVariants as answered
 use Rattle.runs.specs.Runs.{Run, Call, enter, map_to, order_by, fit, reopen, seal, Lent, rank, graph, vertex_order, vertex, refusal, with_level, accepted, unless_refused, step, continued, reckoned, answer_accepted, fit_answer, answer}

@@ -3,7 +3,7 @@ use Rattle.std.specs.Prelude.{◌≡◌, ℕ, ◌-◌, ◌<◌, ◌≤◌, Bool,
 use Rattle.std.specs.List.{AllByRecursion as All}
 use Rattle.hashing.specs.Triples.{Triple}
 use Rattle.ways.specs.Permutation.{Meaning, asked, Permutes}
-use Rattle.runs.specs.declared.stage.Stage.TheVariants.{Mapped, Ordered, Fitted, Sealed}
+use Rattle.runs.specs.declared.stage.Stage.TheVariants.{Mapped, Ordered, Fitted}
 use Rattle.runs.specs.declared.fault.PressFault.{PressFault}
 use Rattle.runs.specs.declared.answer.Answer.{Answer}
 use Rattle.runs.specs.declared.answer.Answer.TheVariants as answered

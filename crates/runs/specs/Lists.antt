@@ -1,5 +1,5 @@
 -- Lists in which something stands, or stands twice.
-use Rattle.std.specs.Prelude.{◌≡◌, ℕ, ◌<◌, Bool, true, false, ◌&&◌, ◌||◌, List, [], ◌∷◌, length, ◌≢◌, nat_eq, slice_index_or}
+use Rattle.std.specs.Prelude.{ℕ, ◌<◌, Bool, false, ◌||◌, List, [], ◌∷◌, length, ◌≢◌, nat_eq, slice_index_or}
 
 -- by a test of sameness, x stands in a list
 abbrev pub has : {X : Type 0} → (X → X → Bool) → X → List X → Bool

@@ -1,14 +1,14 @@
 -- First parts of the lists hold what the whole lists hold, and the other way round. Assumes nothing.
-use Rattle.std.proofs.Common.{◌≡◌, ℕ, ◌*◌, ◌<◌, ◌≤◌, true, false, List, ◌++◌, length, get_or, take, drop, sym, refl, ap, ◌∙◌, subst, arith}
-use Rattle.std.proofs.lemmas.List.{take-take, get_or-take, take-append-le, take-append-drop, length-take, length-append}
+use Rattle.std.proofs.Common.{◌≡◌, ℕ, ◌*◌, ◌<◌, ◌≤◌, true, List, ◌++◌, length, get_or, take, drop, sym, ap, ◌∙◌, subst, arith}
+use Rattle.std.proofs.lemmas.List.{take-take, get_or-take, take-append-le, take-append-drop, length-take}
 use Rattle.hashing.specs.Triples.{Triple}
 use Rattle.graph.specs.Chains.{blank, bare, row, Linked, Headed, Graph}
-use Rattle.ordering.specs.Queue.{Placed, OrderedGraph}
+use Rattle.ordering.specs.Queue.{Placed}
 use Rattle.runs.specs.Runs.{Lent, ample, Run, rank, count, graph as graph_of, vertex_order}
 use Rattle.runs.proofs.Standing.{Stands, length_graph}
 use Rattle.pressing.specs.declared.press.Pressing.{Pressing}
 use Rattle.pressing.specs.Memory.{Memory, lent, memory}
-use Rattle.pressing.specs.Left.{Kept, Held, MappedLists, OrderedLists}
+use Rattle.pressing.specs.Left.{Kept, Held, OrderedLists}
 use Rattle.pressing.proofs.Room.{Ample, ample_all, all_ample}
 
 -- 1. lists that agree in the places that may be in use

@@ -1,13 +1,12 @@
 -- One call of a script, from what the call itself promises. Assumes nothing.
-use Rattle.std.proofs.Common.{◌≡◌, ℕ, Bool, true, false, ◌&&◌, eqb, ltb, leb, List, [], ◌∷◌, length, take, drop, is_err, Some, None, Ok, Err, Option, Result, sym, refl, ap, ◌∙◌, subst, arith, MatchResult}
-use Rattle.refusals.specs.Checks.{unless, or, first}
+use Rattle.std.proofs.Common.{◌≡◌, ℕ, Bool, true, false, ◌&&◌, eqb, ltb, leb, List, [], ◌∷◌, length, is_err, Some, Ok, Err, Option, Result, sym, refl, ap, ◌∙◌, subst, arith, MatchResult}
+use Rattle.refusals.specs.Checks.{unless, first}
 use Rattle.ways.specs.Permutation.{Meaning}
 use Rattle.runs.specs.declared.fault.PressFault.{PressFault}
 use Rattle.runs.specs.declared.fault.PressFault.TheVariants.{WrongStage, ShortList, TooManyNames, WaySize, NoName, VertexCount, Seed, Clash}
 use Rattle.runs.specs.declared.answer.Answer.{Answer}
 use Rattle.runs.specs.declared.answer.Answer.TheVariants as answered
-use Rattle.runs.specs.Runs.{ample, Run, answer, step, sealed_string}
-use Rattle.runs.specs.Runs as run
+use Rattle.runs.specs.Runs.{ample}
 use Rattle.pressing.specs.declared.press.Pressing.{Pressing}
 use Rattle.pressing.specs.declared.answer.Fit.{Fit as FitAnswer}
 use Rattle.pressing.specs.declared.stage.Event.TheVariants as event
@@ -15,8 +14,8 @@ use Rattle.scripts.specs.declared.script.Call.{Call}
 use Rattle.scripts.specs.declared.script.Call.TheVariants.{Enter, Map, Order, Fit, Reopen, Seal}
 use Rattle.pressing.specs.Memory.{Memory, lent}
 use Rattle.pressing.specs.Stages.{belongs}
-use Rattle.pressing.specs.Left.{Left, as_answer, Done}
-use Rattle.pressing.specs.Calls.{fitted, enter_gate, map_gate, order_gate, fit_gate, EnterDone, MapDone, OrderDone, FitDone, ReopenDone, SealDone}
+use Rattle.pressing.specs.Left.{as_answer, Done}
+use Rattle.pressing.specs.Calls.{fitted, EnterDone, MapDone, OrderDone, FitDone, ReopenDone, SealDone}
 use Rattle.scripts.specs.Script.{as_call, StringAfter, Performed}
 
 -- over short lists the first two checks refuse, and not for a clash

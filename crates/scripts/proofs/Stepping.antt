@@ -1,5 +1,5 @@
 -- One step of a script over whole lists, and steps one after the other. Assumes nothing.
-use Rattle.std.proofs.Common.{◌≡◌, ℕ, zero, suc, ◌+◌, ◌-◌, ◌<◌, ◌≤◌, min, Bool, true, false, not, ◌&&◌, eqb, ltb, leb, ◌⊎◌, ◌↔◌, List, [], ◌∷◌, ◌++◌, map, length, get_or, take, drop, set, Some, None, Option, sym, refl, ap, ◌∙◌, subst, inl, inr, arith}
+use Rattle.std.proofs.Common.{◌≡◌, ℕ, zero, suc, ◌+◌, ◌-◌, ◌<◌, ◌≤◌, min, Bool, true, false, not, ◌&&◌, eqb, ltb, leb, ◌⊎◌, ◌↔◌, List, [], ◌∷◌, ◌++◌, length, get_or, take, drop, set, Some, None, Option, sym, refl, ap, ◌∙◌, subst, inl, inr, arith}
 use Rattle.std.specs.Str.{bytes_eq}
 use Rattle.std.proofs.lemmas.List.{take-append-le, take-append-drop, length-take, length-append, length-drop, map_more, take_more_set, take_all, get_or-take, take-map, length-map, get_or-map}
 use Rattle.std.proofs.lemmas.Bool.{cases_Bool}
@@ -19,16 +19,16 @@ use Rattle.runs.proofs.Standing.{seal_passed, after_call, at}
 use Rattle.runs.proofs.Fitted.{was_accepted, unfit_exactly}
 use Rattle.runs.proofs.Sealing.{plate_of}
 use Rattle.pressing.specs.declared.press.Pressing.{Pressing}
-use Rattle.pressing.specs.Memory.{Memory, lent, memory}
+use Rattle.pressing.specs.Memory.{Memory, lent}
 use Rattle.pressing.specs.Left.{IsRun, Held, Left}
 use Rattle.pressing.proofs.Steps.{continued_on, run_stands, refused_run}
 use Rattle.pressing.proofs.EnterCall.{held_open}
 use Rattle.scripts.specs.declared.script.Call.{Call}
 use Rattle.scripts.specs.declared.script.Call.TheVariants.{Enter, Map, Order, Fit, Reopen, Seal}
 use Rattle.scripts.specs.declared.script.Step.{Step}
-use Rattle.scripts.specs.Script.{as_call, lent_of, as_step, as_calls, StringAfter, Performed, before, Holds, StepTaken, Replayed}
+use Rattle.scripts.specs.Script.{as_call, lent_of, as_step, as_calls, Performed, before, Holds, StepTaken, Replayed}
 use Rattle.scripts.proofs.Performing.{short_gate}
-use Rattle.scripts.proofs.Cutting.{Agree, held_agree, first_of, put_back, back_same, whole_ample, cut_agrees, back_agrees}
+use Rattle.scripts.proofs.Cutting.{held_agree, first_of, put_back, back_same, whole_ample, cut_agrees, back_agrees}
 
 stages_apart : (s t : Stage) → s ≡ t → (rank s ≡ rank t → ⊥) → {X : Type 0} → X
 stages_apart s t e ne = absurd (ne (ap rank e))

@@ -4,7 +4,6 @@ use Rattle.std.proofs.lemmas.Bool.{ltb-true, lt-ltb, cases_eq, cond-true}
 use Rattle.runs.specs.Plates.{Entry, Plate, two, record_field, plate_string}
 use Rattle.graph.specs.declared.rows.Row.{Row}
 use Rattle.graph.specs.declared.rows.Vertex.{Vertex}
-use Rattle.graph.specs.Chains.{row}
 use Rattle.fields.specs.Writing.{written}
 use Rattle.fields.specs.Parts.{value_place, record_place, no_entry, Part, the_header, the_values_head, value_of, record_in, Has, Measured, Stands, Those}
 use Rattle.fields.proofs.Standing.{none_stands, one_more_stands, all_are_the_string}

@@ -1,6 +1,6 @@
 -- Numbers are coprime exactly if their greatest common divisor is 1. Assumes nothing.
-use Rattle.std.proofs.Common.{◌≡◌, ℕ, ◌%◌, ◌<◌, sym, ap, ◌∙◌, inl, inr, mod-eq_of_lt, arith}
-use native.Mathlib.Nat.{mod-zero, zero-mod}
+use Rattle.std.proofs.Common.{◌≡◌, ℕ, ◌%◌, sym, ap, ◌∙◌, inl, inr, mod-eq_of_lt, arith}
+use native.Mathlib.Nat.{mod-zero}
 use Rattle.std.proofs.lemmas.Bool.{cases_eq}
 use Rattle.ways.specs.Divisors.{Coprime, Gcd}
 

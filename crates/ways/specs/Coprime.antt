@@ -1,5 +1,5 @@
 -- A stride that is coprime to the size goes through every rotation. Assumes nothing.
-use Rattle.std.specs.Prelude.{◌≡◌, ℕ, zero, suc, ◌+◌, ◌*◌, ◌/◌, ◌%◌, ◌<◌, ◌≤◌, ◌⊎◌, refl}
+use Rattle.std.specs.Prelude.{◌≡◌, ℕ, zero, suc, ◌+◌, ◌*◌, ◌/◌, ◌%◌, ◌<◌, ◌≤◌}
 use Rattle.std.proofs.Common.{sym, ◌∙◌, ap, inl, inr, mod-eq_of_lt, mod-lt, arith}
 use Rattle.std.proofs.Math.Nat.{add-mul-mod_self_left, mod_self, div-add-mod}
 use Rattle.std.proofs.lemmas.Bool.{cases_eq}

@@ -1,7 +1,6 @@
 -- Divisors of a remainder. Assumes nothing.
-use Rattle.std.specs.Prelude.{◌≡◌, ℕ, ◌+◌, ◌*◌, ◌/◌, ◌%◌, ◌<◌, ◌≤◌, refl}
-use Rattle.std.proofs.Common.{sym, ◌∙◌, ap, subst, mul_assoc, mul_comm, arith}
-use Rattle.std.proofs.Math.Nat.{div-add-mod, mul-mod_right, mod-add-mod, add-mod-mod, zero-mod, dvd-mod_iff, dvd_of_mod-eq-zero, mod-eq-zero_of_dvd}
+use Rattle.std.specs.Prelude.{◌≡◌, ℕ, ◌%◌}
+use Rattle.std.proofs.Math.Nat.{dvd-mod_iff, dvd_of_mod-eq-zero, mod-eq-zero_of_dvd}
 
 -- what divides a and b divides a % b
 pub mod_divides : (a b d : ℕ) → a % d ≡ 0 → b % d ≡ 0 → (a % b) % d ≡ 0

@@ -1,5 +1,5 @@
 -- The law of each way. Assumes nothing.
-use Rattle.std.specs.Prelude.{◌≡◌, ℕ, ◌+◌, ◌*◌, ◌%◌, ◌<◌, ◌≤◌, List, length, slice_index}
+use Rattle.std.specs.Prelude.{◌≡◌, ℕ, ◌+◌, ◌*◌, ◌<◌, List, length, slice_index}
 use Rattle.std.proofs.Common.{sym, inl, inr, mod-lt}
 use Rattle.std.proofs.lemmas.Bool.{cases_order}
 use Rattle.ways.specs.Permutation.{Permutes}

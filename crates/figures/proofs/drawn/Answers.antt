@@ -1,4 +1,4 @@
-use Rattle.std.proofs.Common.{◌≡◌, sym, refl, ap, ◌∙◌, arith}
+use Rattle.std.proofs.Common.{◌≡◌, sym, ap, ◌∙◌, arith}
 use Rattle.hashing.specs.Generator.{next, after}
 use Rattle.hashing.proofs.Drawing.{after_more}
 use Rattle.figures.proofs.drawn.Goals as goal

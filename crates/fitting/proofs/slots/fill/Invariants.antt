@@ -1,4 +1,4 @@
-use Rattle.std.proofs.Common.{◌≡◌, length, drop}
+use Rattle.std.proofs.Common.{◌≡◌, drop}
 use Rattle.fitting.specs.Placing.{placed}
 use Rattle.fitting.proofs.slots.fill.Given as goal
 

@@ -1,10 +1,10 @@
-use Rattle.std.proofs.Common.{◌≡◌, ℕ, ◌+◌, ◌-◌, ◌%◌, ◌<◌, ◌≤◌, Bool, true, false, List, length, get_or, is_some, Some, None, Option, sym, refl, ap, ◌∙◌, subst, mod-eq_of_lt, arith, below_more}
+use Rattle.std.proofs.Common.{◌≡◌, ℕ, ◌+◌, ◌-◌, ◌%◌, ◌<◌, ◌≤◌, Bool, List, length, get_or, is_some, Some, None, Option, sym, refl, ap, ◌∙◌, arith, below_more}
 use Rattle.ways.specs.Permutation.{asked}
 use Rattle.runs.specs.Fitting.{first_fit, free, turned}
 use Rattle.fitting.specs.declared.level.LevelName.{LevelName}
-use Rattle.fitting.specs.Placing.{offsets, FilledAre, Apart}
+use Rattle.fitting.specs.Placing.{offsets, Apart}
 use Rattle.fitting.proofs.Placed.{no_name, offset_at, length_offsets}
-use Rattle.fitting.proofs.Trying.{alike_blocked, taken_blocked, empty_fits, none_fits, go_on, stop, run_out}
+use Rattle.fitting.proofs.Trying.{alike_blocked, taken_blocked, empty_fits, none_fits, go_on, stop}
 use Rattle.fitting.proofs.slots.first_that_fits.Goals as goal
 
 pub are_apart-requires : goal.are_apart-requires

@@ -1,4 +1,4 @@
-use Rattle.std.proofs.Common.{◌≡◌, ℕ, ◌+◌, ◌-◌, ◌%◌, ◌<◌, ◌≤◌, false, List, length, get_or, is_some, None}
+use Rattle.std.proofs.Common.{◌≡◌, ℕ, ◌+◌, ◌-◌, ◌%◌, ◌<◌, ◌≤◌, false, List, get_or, is_some, None}
 use Rattle.ways.specs.Permutation.{asked}
 use Rattle.runs.specs.Fitting.{first_fit}
 use Rattle.fitting.specs.Placing.{offsets, FilledAre}

@@ -1,4 +1,4 @@
-use Rattle.std.proofs.Common.{◌≡◌, ℕ, ◌*◌, take, drop}
+use Rattle.std.proofs.Common.{◌≡◌, ◌*◌, take, drop}
 use Rattle.graph.specs.Chains.{Graph}
 use Rattle.graph.specs.Mapping.{row_triples}
 use Rattle.graph.proofs.build.map_names.Given as goal

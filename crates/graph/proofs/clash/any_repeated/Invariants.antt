@@ -1,4 +1,4 @@
-use Rattle.std.proofs.Common.{◌≡◌, ℕ, ◌<◌, ◌≤◌, false, List, length, get_or}
+use Rattle.std.proofs.Common.{◌≡◌, ℕ, ◌<◌, false, List, length, get_or}
 use Rattle.hashing.specs.Triples.{Triple}
 use Rattle.runs.specs.Runs.{same_triple}
 use Rattle.graph.specs.Chains.{Edges, nil}

@@ -1,5 +1,5 @@
 use Rattle.std.proofs.Common.{true, false, refl, arith}
-use Rattle.graph.proofs.Clashing.{walk_begins, walk_ends, walk_finds, walk_goes}
+use Rattle.graph.proofs.Clashing.{walk_ends, walk_finds, walk_goes}
 use Rattle.graph.proofs.clash.is_repeated.Goals as goal
 
 pub loop-at-preserved : goal.loop-at-preserved

@@ -1,5 +1,4 @@
 use Rattle.std.proofs.Common.{add-one, arith}
-use Rattle.hashing.specs.Generator.{after}
 use Rattle.hashing.proofs.Drawing.{get_or_tables, after_in_range}
 use Rattle.hashing.proofs.laws.tables_hold_the_draws.Goals as goal
 

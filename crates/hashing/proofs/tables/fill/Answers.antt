@@ -1,8 +1,7 @@
-use Rattle.std.proofs.Common.{◌≡◌, ℕ, ◌<◌, ◌≤◌, true, leb, List, [], ◌∷◌, ◌++◌, length, get_or, drop, set, Ok, Err, sym, refl, ap, ◌∙◌, subst, arith}
+use Rattle.std.proofs.Common.{◌≡◌, ℕ, ◌≤◌, true, leb, List, [], ◌∷◌, ◌++◌, length, get_or, drop, set, sym, ap, ◌∙◌, subst, arith}
 use Rattle.std.proofs.lemmas.Bool.{cond-true, le-leb}
 use Rattle.refusals.specs.Checks.{unless}
 use Rattle.hashing.specs.Generator.{tables, next, after, drawn}
-use Rattle.hashing.specs.Filling.{filled}
 use Rattle.hashing.specs.declared.fault.HashFault.TheVariants.{ShortTables}
 use Rattle.refusals.specs.Checks.{first, with_value}
 use Rattle.hashing.proofs.Drawing.{filling, after_more, tables_in_range}

@@ -1,4 +1,4 @@
-use Rattle.std.proofs.Common.{◌≡◌, length, get_or, refl, ◌∙◌, arith}
+use Rattle.std.proofs.Common.{get_or, refl, arith}
 use Rattle.hashing.proofs.Summing.{summed_none, summed_more, summed_all}
 use Rattle.hashing.proofs.triples.sums_at.Goals as goal
 

@@ -1,4 +1,4 @@
-use Rattle.std.proofs.Common.{◌≡◌, ℕ, ◌-◌, ◌*◌, ◌≤◌, List, length, take, drop}
+use Rattle.std.proofs.Common.{◌≡◌, ◌-◌, ◌*◌, ◌≤◌, List, length, take, drop}
 use Rattle.heap.specs.Order.{Holds}
 use Rattle.orders.specs.Sooner.{sooner}
 use Rattle.hashing.specs.Triples.{Triple}

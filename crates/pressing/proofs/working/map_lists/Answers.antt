@@ -1,4 +1,4 @@
-use Rattle.std.proofs.Common.{◌≡◌, true, false, not, sym, refl, ap, ◌∙◌, arith}
+use Rattle.std.proofs.Common.{not, sym, ap, ◌∙◌}
 use Rattle.refusals.specs.Checks.{unless, with_value}
 use Rattle.runs.specs.declared.fault.PressFault.TheVariants.{Clash}
 use Rattle.pressing.proofs.Worked.{never_short, map_worked}

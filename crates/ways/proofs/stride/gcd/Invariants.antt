@@ -1,4 +1,4 @@
-use Rattle.std.proofs.Common.{◌≡◌, ℕ, ◌%◌, ◌<◌}
+use Rattle.std.proofs.Common.{◌≡◌, ℕ, ◌%◌}
 use Rattle.ways.proofs.stride.gcd.Given as goal
 
 -- what divides both of the two at hand divides both of the two that were given, and the other way round

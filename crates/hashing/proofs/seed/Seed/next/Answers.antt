@@ -1,4 +1,4 @@
-use Rattle.std.proofs.Common.{◌≡◌, ℕ, ◌*◌, ◌%◌, ◌≤◌, sym, ap, ◌∙◌, subst, arith}
+use Rattle.std.proofs.Common.{◌≡◌, ◌*◌, ◌%◌, ◌≤◌, sym, ap, ◌∙◌, subst}
 use Rattle.hashing.specs.Generator.{next}
 use Rattle.hashing.proofs.Drawing.{step_in_range}
 use Rattle.hashing.proofs.seed.Seed.next.Goals as goal

@@ -1,5 +1,4 @@
-use Rattle.std.proofs.Common.{Err, sym, refl, ap, ◌∙◌}
-use Rattle.std.proofs.lemmas.Result.{err_from_is_err_and}
+use Rattle.std.proofs.Common.{sym, refl, ◌∙◌}
 use Rattle.pressing.proofs.EnterCall as step
 use Rattle.pressing.proofs.press.Pressing.reopen.Goals as goal
 
