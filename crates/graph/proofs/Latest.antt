@@ -1,6 +1,6 @@
 -- The last of some numbers that passes, and the degree of a vertex.
 use Rattle.std.proofs.Common.{◌≡◌, ℕ, zero, suc, ◌+◌, ◌<◌, ◌≤◌, Bool, true, false, cond, ◌||◌, eqb, List, [], ◌∷◌, ◌++◌, length, get_or, sym, refl, ap, ◌∙◌, inl, inr, add-one, arith}
-use Rattle.std.specs.List.{AllByRecursion as All}
+use Rattle.std.specs.List.{AllByRecursion}
 use Rattle.std.proofs.lemmas.Bool.{cases_eq, cases_Bool, ne_eqb, cond-true, cond-false}
 use Rattle.std.proofs.lemmas.List.{length_push, get_or_push, get_or_append_left}
 use Rattle.std.proofs.ByRecursion.{All-get_or}
@@ -73,7 +73,7 @@ module _ (es : List Triple) (t : Triple) where
   link2_more i l = latest_same (same2 (es ++ t ∷ []) i) (same2 es i) i (λ j m. λ k. eqb (old_at i l k).h2 (old_at j (omega arith) k).h2)
 
   -- what stands before an edge at its first vertex, and at its second
-  module _ (r : ℕ) (h : All (Halves r) es) (ht : Halves r t) where
+  module _ (r : ℕ) (h : AllByRecursion (Halves r) es) (ht : Halves r t) where
     pub link1_new : latest (at_vertex es t.h1) (length es) ≡ latest (same1 (es ++ t ∷ []) (length es)) (length es)
     link1_new = latest_same (at_vertex es t.h1) (same1 (es ++ t ∷ []) (length es)) (length es)
         (λ j l. touches_low r t.h1 (get_or es j nil) (All-get_or (Halves r) es j nil l h) ht.low ∙ sym (λ k. eqb (get_or_push es t nil (length es) refl k).h1 (old_at j l k).h1))

@@ -1,6 +1,6 @@
 -- The graph of some triples, held in lists of edges and vertices.
 use Rattle.std.specs.Prelude.{◌≡◌, ℕ, zero, suc, ◌+◌, ◌*◌, ◌<◌, ◌≤◌, Bool, true, false, cond, List, length, get_or, ◌==◌, slice_index_or, slice_set}
-use Rattle.std.specs.List.{AllByRecursion as All}
+use Rattle.std.specs.List.{AllByRecursion}
 use Rattle.hashing.specs.Triples.{Triple}
 use Rattle.runs.specs.Order.{touches, degree}
 use Rattle.runs.specs.Lists.{repeats}
@@ -69,7 +69,7 @@ Edges es edges = (i : ℕ) → i < length es → Linked es i (link edges i)
 
 -- the rows hold the edges es between the vertices 0 to 2r - 1
 pub record Graph (es : List Triple) (r : ℕ) (edges : List Edge) (vertices : List Vertex) : Type 0 where
-  pub halves : All (Halves r) es
+  pub halves : AllByRecursion (Halves r) es
   pub edge : Edges es edges
   pub vertex : (v : ℕ) → v < 2 * r → Headed es v (row vertices v)
 

@@ -1,6 +1,6 @@
 -- What the slots hold once the names of a level are placed: the fillers of the next level.
 use Rattle.std.proofs.Common.{◌≡◌, ℕ, zero, suc, ◌+◌, ◌%◌, ◌<◌, ◌≤◌, Bool, true, false, cond, ◌&&◌, eqb, ◌⊎◌, List, [], ◌∷◌, ◌++◌, map, length, get_or, set, is_some, Some, None, Option, sym, refl, ap, ◌∙◌, inl, inr, arith}
-use Rattle.std.specs.List.{AllByRecursion as All}
+use Rattle.std.specs.List.{AllByRecursion}
 use Rattle.std.proofs.lemmas.Bool.{cases_Bool, cases_eq, cases_lt, eq-eqb, eqb-true, and_parts, both_ways, cond-true, cond-false}
 use Rattle.std.proofs.lemmas.List.{length-set, get_or-set_same, get_or-set_other}
 use Rattle.std.proofs.ByRecursion.{All-get_or}
@@ -94,7 +94,7 @@ level_one n values vs v x s e = elim (cases_Bool (joins vs v e)) [
 
 -- a rotation x that fits the level of v
 module _ (es : List Triple) (n : ℕ) (values filled vs : List ℕ) (v x : ℕ) (en : length es ≡ n)
-    (ends : All (λ e. e.h1 ≡ e.h2 → ⊥) es) (inside : v < length values) (fresh : among v vs ≡ false)
+    (ends : AllByRecursion (λ e. e.h1 ≡ e.h2 → ⊥) es) (inside : v < length values) (fresh : among v vs ≡ false)
     (fits : free filled (turned n x (map (offset n values v) (level_of es vs v))) ≡ true)
     (fill : (s : ℕ) → s < n → among s filled ≡ is_some (filler es n values vs s)) where
   abbrev after : List ℕ

@@ -1,6 +1,6 @@
 -- What comes out of the heap, or starts a new part, is next in the order.
 use Rattle.std.proofs.Common.{◌≡◌, ℕ, zero, suc, ◌+◌, ◌*◌, ◌<◌, ◌≤◌, Bool, true, false, not, ◌&&◌, ◌||◌, eqb, List, [], ◌∷◌, ◌++◌, length, get_or, set, Some, None, Option, sym, refl, ap, ◌∙◌, subst, inl, inr, arith}
-use Rattle.std.specs.List.{AllByRecursion as All}
+use Rattle.std.specs.List.{AllByRecursion}
 use Rattle.std.specs.List.Sorted.{IsPermutation}
 use Rattle.std.proofs.lemmas.Bool.{cases_eq, cases_Bool, both_ways, eq-eqb, ne_eqb, or_left, or_right, or_cases, or_from, and_from, and_parts, not-true, not_from_false, ltb-false, cond-true, cond-false}
 use Rattle.std.proofs.lemmas.List.{length_push, get_or_push, get_or_append_left}
@@ -43,14 +43,14 @@ joined_degree (e ∷ es) vs v h = elim (or_cases (joins vs v e) (joined es vs v)
   | inr a ↦ omega (arith, joined_degree es vs v a)
 ]
 
-find_held : (P : Waiting → Type 0) (u : ℕ) (hs : List Waiting) → All P hs → 0 < times_in u hs → (w : Waiting) × P w × (w.vertex ≡ u)
+find_held : (P : Waiting → Type 0) (u : ℕ) (hs : List Waiting) → AllByRecursion P hs → 0 < times_in u hs → (w : Waiting) × P w × (w.vertex ≡ u)
 find_held P u [] h l = absurd (omega arith)
 find_held P u (w ∷ hs) h l = elim (cases_eq u w.vertex) [
   | inl e ↦ (w, h.0, sym e)
   | inr e ↦ find_held P u hs h.1 (omega (arith, sum_by-cons (is_of u) w hs, is_of_other u w e))
 ]
 
-both : {X : Type 0} (P Q : X → Type 0) (xs : List X) → All P xs → All Q xs → All (λ x. P x × Q x) xs
+both : {X : Type 0} (P Q : X → Type 0) (xs : List X) → AllByRecursion P xs → AllByRecursion Q xs → AllByRecursion (λ x. P x × Q x) xs
 both P Q [] a b = tt
 both P Q (x ∷ xs) a b = ((a.0, b.0), both P Q xs a.1 b.1)
 
@@ -73,11 +73,11 @@ module _ (es : List Triple) (r : ℕ) (vs : List ℕ) (vertices : List Vertex) (
   joined_waits : (u : ℕ) → u < 2 * r → waits_joined es vs u ≡ true → (row vertices u).place ≡ Waits
   joined_waits u l h = waits_at u (row vertices u).place (q.stands u l) h
 
-  module _ (y : Waiting) (hs' : List Waiting) (f : All (Leads sooner y) hs) (s : IsPermutation hs (y ∷ hs')) where
+  module _ (y : Waiting) (hs' : List Waiting) (f : AllByRecursion (Leads sooner y) hs) (s : IsPermutation hs (y ∷ hs')) where
     v : ℕ
     v = y.vertex
 
-    knowns : Known (2 * r) (degree es) y × All (Known (2 * r) (degree es)) hs'
+    knowns : Known (2 * r) (degree es) y × AllByRecursion (Known (2 * r) (degree es)) hs'
     knowns = all_shuffled (Known (2 * r) (degree es)) hs (y ∷ hs') s q.known
 
     counted : times_in y.vertex hs ≡ 1 + times_in y.vertex hs'
@@ -150,7 +150,7 @@ module _ (es : List Triple) (r : ℕ) (vs : List ℕ) (vertices : List Vertex) (
       record {
         others = λ u n. ap (times_in u) (e' ∙ sym e);
         gone = ap (times_in b) e';
-        known = subst (All (Known (2 * r) (degree es))) (sym e') tt;
+        known = subst (AllByRecursion (Known (2 * r) (degree es))) (sym e') tt;
       },
     )
 

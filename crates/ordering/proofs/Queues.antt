@@ -1,6 +1,6 @@
 -- What the heap of waiting vertices and the places of the vertices say of each other.
 use Rattle.std.proofs.Common.{◌≡◌, ℕ, ◌+◌, ◌<◌, ◌≤◌, Bool, true, false, ◌||◌, eqb, List, [], ◌∷◌, map, length, take, set, Ok, Err, Result, sym, refl, ap, ◌∙◌, subst, inl, inr, arith}
-use Rattle.std.specs.List.{AllByRecursion as All}
+use Rattle.std.specs.List.{AllByRecursion}
 use Rattle.std.specs.List.Sorted.{IsPermutation}
 use Rattle.std.proofs.lemmas.Bool.{cases_eq, cases_lt, both_ways, eq-eqb, ne_eqb, or_left}
 use Rattle.std.proofs.lemmas.List.{get_or-set_same, get_or-set_other, drop-set-lt, length-map}
@@ -99,7 +99,7 @@ times_map : (u : ℕ) (hs : List Waiting) → times u (map vertex_of hs) ≡ tim
 times_map u [] = refl
 times_map u (w ∷ hs) = ap (λ n. is_of u w + n) (times_map u hs) ∙ sym (sum_by-cons (is_of u) w hs)
 
-times_past : (m u : ℕ) (xs : List ℕ) → All (λ x. x < m) xs → m ≤ u → times u xs ≡ 0
+times_past : (m u : ℕ) (xs : List ℕ) → AllByRecursion (λ x. x < m) xs → m ≤ u → times u xs ≡ 0
 times_past m u [] h l = refl
 times_past m u (x ∷ xs) h l = omega (arith, one_false (eqb u x) (ne_eqb u x (λ e. omega (arith, h.0))), times_past m u xs h.1 l)
 
@@ -145,7 +145,7 @@ module _ (m : ℕ) (weight : ℕ → ℕ) (vs : List ℕ) (vertices : List Verte
       none_waits : times_in x hs ≡ 0
       none_waits = q.once x l ∙ ap waiting is
 
-      low : All (λ y. y < m) (map vertex_of hs)
+      low : AllByRecursion (λ y. y < m) (map vertex_of hs)
       low = All-map (λ y. y < m) vertex_of hs (All-weaker (Known m weight) (λ w. w.vertex < m) (λ w k. k.below) hs q.known)
 
       apart : Apart (x ∷ map vertex_of hs)

@@ -1,6 +1,6 @@
 -- The vertices that wait for their place, the order as it is written, and what `order` answers and leaves.
 use Rattle.std.specs.Prelude.{◌≡◌, ℕ, ◌*◌, ◌<◌, ◌≤◌, Bool, true, false, cond, ◌&&◌, List, length, take, drop, Some, None, sum_by, Option, ◌==◌, ◌≢◌, nat_le, slice_index}
-use Rattle.std.specs.List.{AllByRecursion as All}
+use Rattle.std.specs.List.{AllByRecursion}
 use Rattle.hashing.specs.Triples.{Triple}
 use Rattle.runs.specs.Lists.{among}
 use Rattle.runs.specs.Order.{degree, order, Best, Next}
@@ -42,7 +42,7 @@ pub record Known (m : ℕ) (weight : ℕ → ℕ) (w : Waiting) : Type 0 where
 pub record Queued (m : ℕ) (weight : ℕ → ℕ) (vs : List ℕ) (seen : ℕ → Bool) (vertices : List Vertex) (hs : List Waiting) : Type 0 where
   pub stands : (u : ℕ) → u < m → Stands vs seen u (row vertices u).place
   pub once : (u : ℕ) → u < m → times_in u hs ≡ waiting (row vertices u).place
-  pub known : All (Known m weight) hs
+  pub known : AllByRecursion (Known m weight) hs
 
 abbrev pub degree_at : List Vertex → ℕ → ℕ
 degree_at vertices u = (row vertices u).degree
@@ -86,7 +86,7 @@ Resumed m vertices (Some v) = Best (degree_at vertices) (unseen_at vertices) m v
 pub record Without (m : ℕ) (weight : ℕ → ℕ) (v : ℕ) (hs hs' : List Waiting) : Type 0 where
   pub others : (u : ℕ) → (u ≢ v) → times_in u hs' ≡ times_in u hs
   pub gone : times_in v hs' ≡ 0
-  pub known : All (Known m weight) hs'
+  pub known : AllByRecursion (Known m weight) hs'
 
 -- the vertex that is next after vs is taken from the heap, or found; or none is left
 abbrev pub Chosen : List Triple → ℕ → List ℕ → List Waiting → List Waiting → Option ℕ → Type 0

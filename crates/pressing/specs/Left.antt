@@ -1,6 +1,6 @@
 -- When a pressing and the lists lent to it are as a run's calls left them, and what every call promises.
 use Rattle.std.specs.Prelude.{◌≡◌, ℕ, ◌*◌, ◌<◌, ◌≤◌, true, List, map, length, take, is_err, Some, None, Ok, Err, Option, Result, slice_index}
-use Rattle.std.specs.List.{AllByRecursion as All}
+use Rattle.std.specs.List.{AllByRecursion}
 use Rattle.hashing.specs.Generator.{tables as tables_of}
 use Rattle.graph.specs.declared.rows.Row.{Row}
 use Rattle.graph.specs.Chains.{row, Graph}
@@ -23,7 +23,7 @@ module _ {N : Type 0} (spelling : N → List ℕ) where
   -- m is what some list of calls comes to
   pub record IsRun (m : Run N) : Type 0 where
     pub calls : List (Call N)
-    pub sound : All Sound calls
+    pub sound : AllByRecursion Sound calls
     pub comes_to : m ≡ reckoned spelling calls
 
   -- the pressing has what the run has

@@ -1,6 +1,6 @@
 -- The edges that names give, and the slots that fitting has filled.
 use Rattle.std.proofs.Common.{◌≡◌, ℕ, zero, suc, ◌+◌, ◌*◌, ◌<◌, ◌≤◌, Bool, true, false, eqb, List, [], ◌∷◌, ◌++◌, map, length, get_or, take, drop, set, replicate, sym, refl, ap, ◌∙◌, inl, inr, mod-lt, arith}
-use Rattle.std.specs.List.{AllByRecursion as All}
+use Rattle.std.specs.List.{AllByRecursion}
 use Rattle.std.proofs.lemmas.Bool.{eq-eqb, cases_eq, and_from, and_parts, both_ways, or_left, or_right, or_parts, eqb-false, ne_eqb}
 use Rattle.std.proofs.lemmas.List.{length-set, length-replicate, length-map, take_more, take-append-drop, drop_more, get_or-set_other}
 use Rattle.std.proofs.ByRecursion.{All-weaker, All-map, All-set, All-get_or}
@@ -19,7 +19,7 @@ pub record Edge (r : ℕ) (e : Triple) : Type 0 where
   pub second_high : r ≤ e.h2
   pub second_low : e.h2 < 2 * r
 
-pub ends_differ : (r : ℕ) (es : List Triple) → All (Edge r) es → All (λ e. e.h1 ≡ e.h2 → ⊥) es
+pub ends_differ : (r : ℕ) (es : List Triple) → AllByRecursion (Edge r) es → AllByRecursion (λ e. e.h1 ≡ e.h2 → ⊥) es
 ends_differ r es edges = All-weaker (Edge r) (λ e. e.h1 ≡ e.h2 → ⊥) (λ e p q. omega (arith, p.first_low, p.second_high)) es edges
 
 pub triple_edge : (t : List ℕ) (n r : ℕ) (s : List ℕ) → 1 ≤ r → Edge r (triple t n r s)
@@ -30,7 +30,7 @@ triple_edge t n r s h = record {
 }
 
 -- each edge counts at both of its vertices
-degree_ends : (es : List Triple) → All (λ e. (0 < degree es e.h1) × (0 < degree es e.h2)) es
+degree_ends : (es : List Triple) → AllByRecursion (λ e. (0 < degree es e.h1) × (0 < degree es e.h2)) es
 degree_ends [] = tt
 degree_ends (e ∷ es) = (
   (
@@ -41,12 +41,12 @@ degree_ends (e ∷ es) = (
       (λ f p. (omega arith, omega arith)) es (degree_ends es),
 )
 
-all_both : {X : Type 0} (P Q R : X → Type 0) → ((x : X) → P x → Q x → R x) → (xs : List X) → All P xs → All Q xs → All R xs
+all_both : {X : Type 0} (P Q R : X → Type 0) → ((x : X) → P x → Q x → R x) → (xs : List X) → AllByRecursion P xs → AllByRecursion Q xs → AllByRecursion R xs
 all_both P Q R f [] p q = tt
 all_both P Q R f (x ∷ xs) p q = (f x p.0 q.0, all_both P Q R f xs p.1 q.1)
 
 -- the order settles every edge
-pub all_within : (es : List Triple) (r : ℕ) → All (Edge r) es → All (λ e. settles (order es r) e ≡ true) es
+pub all_within : (es : List Triple) (r : ℕ) → AllByRecursion (Edge r) es → AllByRecursion (λ e. settles (order es r) e ≡ true) es
 all_within es r h =
     all_both (Edge r) (λ e. (0 < degree es e.h1) × (0 < degree es e.h2)) (λ e. settles (order es r) e ≡ true)
     (λ e p q. and_from (among e.h1 (order es r)) (among e.h2 (order es r))
@@ -58,7 +58,7 @@ nonempty : (u : ℕ) (vs : List ℕ) → among u vs ≡ true → 0 < length vs
 nonempty u [] h = absurd (both_ways false refl h)
 nonempty u (v ∷ vs) h = omega arith
 
-pub some_level : (es : List Triple) (r : ℕ) → 1 ≤ length es → All (Edge r) es → 0 < length (order es r)
+pub some_level : (es : List Triple) (r : ℕ) → 1 ≤ length es → AllByRecursion (Edge r) es → 0 < length (order es r)
 some_level [] r h edges = absurd (omega arith)
 some_level (e ∷ es) r h edges =
     nonempty e.h1 (order (e ∷ es) r)
@@ -87,12 +87,12 @@ module _ (m : ℕ) (vs : List ℕ) (lined : Lined m vs) where
 -- over m vertices: those of vs have their values and the others 0, and the filled slots are those of the names settled by vs, none twice
 pub record Filled (n m : ℕ) (es : List Triple) (values filled vs : List ℕ) : Type 0 where
   pub size : length values ≡ m
-  pub low : All (λ x. x < n) values
+  pub low : AllByRecursion (λ x. x < n) values
   pub others : (u : ℕ) → among u vs ≡ false → get_or values u 0 ≡ 0
   pub same : (s : ℕ) → times s filled ≡ times s (settled_by n values vs es)
   pub apart : Apart filled
 
-all_zeros : (n k : ℕ) → 1 ≤ n → All (λ x. x < n) (replicate k 0)
+all_zeros : (n k : ℕ) → 1 ≤ n → AllByRecursion (λ x. x < n) (replicate k 0)
 all_zeros n zero h = tt
 all_zeros n (suc k) h = (h, all_zeros n k h)
 
@@ -105,7 +105,7 @@ settled_none : (n : ℕ) (values : List ℕ) (es : List Triple) → settled_by n
 settled_none n values [] = refl
 settled_none n values (e ∷ es) = settled_none n values es
 
-settled_all : (n : ℕ) (values vs : List ℕ) (es : List Triple) → All (λ e. settles vs e ≡ true) es → settled_by n values vs es ≡ map (slot n values) es
+settled_all : (n : ℕ) (values vs : List ℕ) (es : List Triple) → AllByRecursion (λ e. settles vs e ≡ true) es → settled_by n values vs es ≡ map (slot n values) es
 settled_all n values vs [] h = refl
 settled_all n values vs (e ∷ es) h = simp h.0 (ap (λ l. slot n values e ∷ l) (settled_all n values vs es h.1))
 
@@ -119,7 +119,7 @@ filled_none n m es h = record {
 }
 
 -- one more vertex, with a value whose slots are free
-filled_more : (n m : ℕ) (es : List Triple) (values filled vs : List ℕ) (v x : ℕ) → All (λ e. e.h1 ≡ e.h2 → ⊥) es →
+filled_more : (n m : ℕ) (es : List Triple) (values filled vs : List ℕ) (v x : ℕ) → AllByRecursion (λ e. e.h1 ≡ e.h2 → ⊥) es →
     Filled n m es values filled vs → v < m → among v vs ≡ false → x < n →
     free filled (turned n x (map (offset n values v) (level_of es vs v))) ≡ true →
     Filled n m es (set values v x) (filled ++ turned n x (map (offset n values v) (level_of es vs v))) (vs ++ v ∷ [])
@@ -137,19 +137,19 @@ filled_more n m es values filled vs v x ends h inside fresh small ok = record {
     new = turned n x (map (offset n values v) (level_of es vs v))
 
 -- all settled: each slot below n is that of one name
-pub filled_all : (n m : ℕ) (es : List Triple) (values filled vs : List ℕ) → 1 ≤ n → length es ≡ n → All (λ e. settles vs e ≡ true) es →
+pub filled_all : (n m : ℕ) (es : List Triple) (values filled vs : List ℕ) → 1 ≤ n → length es ≡ n → AllByRecursion (λ e. settles vs e ≡ true) es →
     Filled n m es values filled vs → (k : ℕ) → k < n → times k (map (slot n values) es) ≡ 1
 filled_all n m es values filled vs some e all h =
     each_once n (map (slot n values) es) (length-map es (slot n values) ∙ e)
     (All-map (λ x. x < n) (slot n values) es (slots_low es))
     (λ s. omega (arith, h.apart s, h.same s, ap (times s) (settled_all n values vs es all)))
   where
-    slots_low : (fs : List Triple) → All (λ e. slot n values e < n) fs
+    slots_low : (fs : List Triple) → AllByRecursion (λ e. slot n values e < n) fs
     slots_low [] = tt
     slots_low (f ∷ fs) = (mod-lt _ some, slots_low fs)
 
 -- the next level of the order
-pub filled_level : (n r : ℕ) (es : List Triple) (values filled : List ℕ) (i x : ℕ) → All (Edge r) es → i < length (order es r) →
+pub filled_level : (n r : ℕ) (es : List Triple) (values filled : List ℕ) (i x : ℕ) → AllByRecursion (Edge r) es → i < length (order es r) →
     Filled n (2 * r) es values filled (take i (order es r)) → x < n →
     free filled (turned n x (map (offset n values (get_or (order es r) i 0)) (level_of es (take i (order es r)) (get_or (order es r) i 0)))) ≡ true →
     Filled n (2 * r) es (set values (get_or (order es r) i 0) x)

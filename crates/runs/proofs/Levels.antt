@@ -1,7 +1,7 @@
 -- What one more level adds to the slots of the settled names: the slots that its rotation gives.
 use Rattle.std.proofs.Common.{◌≡◌, ℕ, ◌+◌, ◌%◌, ◌<◌, Bool, true, false, cond, ◌&&◌, ◌||◌, eqb, ◌⊎◌, List, [], ◌∷◌, ◌++◌, map, length, get_or, set, filter, sym, refl, ap, ◌∙◌, ap₂, inl, inr, arith}
 use native.Mathlib.Nat.{mod-add-mod}
-use Rattle.std.specs.List.{AllByRecursion as All}
+use Rattle.std.specs.List.{AllByRecursion}
 use Rattle.std.proofs.lemmas.Bool.{eq-eqb, ne_eqb, cases_Bool, cases_eq}
 use Rattle.std.proofs.lemmas.List.{get_or-set_same, get_or-set_other}
 use Rattle.hashing.specs.Triples.{Triple}
@@ -107,7 +107,7 @@ module _ (n : ℕ) (values vs : List ℕ) (v x : ℕ) (inside : v < length value
     | inr a ↦ elim (cases_eq v e.h2) [ inl b ↦ edge_at_second e a b | inr b ↦ edge_elsewhere e a b ]
   ]
 
-  pub level_adds : (s : ℕ) (es : List Triple) → All (λ e. e.h1 ≡ e.h2 → ⊥) es →
+  pub level_adds : (s : ℕ) (es : List Triple) → AllByRecursion (λ e. e.h1 ≡ e.h2 → ⊥) es →
       times s (settled_by n after more es) ≡ times s (settled_by n values vs es) + times s (turned n x (map (offset n values v) (level_of es vs v)))
   level_adds s [] d = refl
   level_adds s (e ∷ es) d = elim (edge_cases e d.0) [
@@ -119,7 +119,7 @@ module _ (n : ℕ) (values vs : List ℕ) (v x : ℕ) (inside : v < length value
   ]
 
   -- the slots that x gives to the level are those of its names once v has the value x
-  pub level_turned : (es : List Triple) → All (λ e. e.h1 ≡ e.h2 → ⊥) es →
+  pub level_turned : (es : List Triple) → AllByRecursion (λ e. e.h1 ≡ e.h2 → ⊥) es →
       turned n x (map (offset n values v) (level_of es vs v)) ≡ map (slot n after) (level_of es vs v)
   level_turned [] d = refl
   level_turned (e ∷ es) d = elim (edge_cases e d.0) [

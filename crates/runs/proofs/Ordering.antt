@@ -1,6 +1,6 @@
 -- What the order of the vertices is like: each once, all below 2r, and every vertex of an edge among them.
 use Rattle.std.proofs.Common.{◌≡◌, ℕ, zero, suc, ◌+◌, ◌*◌, ◌<◌, Bool, true, false, cond, not, ◌&&◌, eqb, ltb, ◌⊎◌, List, [], ◌∷◌, ◌++◌, length, Some, None, Option, sym, refl, ap, ◌∙◌, subst, ap₂, inl, inr, add-zero, zero-add, arith}
-use Rattle.std.specs.List.{AllByRecursion as All}
+use Rattle.std.specs.List.{AllByRecursion}
 use Rattle.std.proofs.lemmas.Bool.{ne_eqb, cases_Bool, cases_eq, and_parts, ltb-true, ltb-false, not-true, not_from_false, both_ways}
 use Rattle.std.proofs.lemmas.List.{length_push}
 use Rattle.std.proofs.ByRecursion.{All-push}
@@ -94,7 +94,7 @@ module _ (weight : ℕ → ℕ) (ok : ℕ → Bool) where
 
 -- vertices below m, none twice
 pub record Lined (m : ℕ) (vs : List ℕ) : Type 0 where
-  pub low : All (λ v. v < m) vs
+  pub low : AllByRecursion (λ v. v < m) vs
   pub apart : Apart vs
 
 pub apart_push : (vs : List ℕ) (v : ℕ) → Apart vs → among v vs ≡ false → Apart (vs ++ v ∷ [])

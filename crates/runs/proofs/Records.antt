@@ -1,6 +1,6 @@
 -- Entries put by slot: each in its own slot, and found as before.
 use Rattle.std.proofs.Common.{◌≡◌, ℕ, zero, suc, ◌+◌, ◌<◌, ◌≤◌, cond, eqb, List, [], ◌∷◌, map, length, get_or, Some, None, sym, refl, ap, ◌∙◌, inl, inr, arith}
-use Rattle.std.specs.List.{range_with_len, AllByRecursion as All}
+use Rattle.std.specs.List.{range_with_len, AllByRecursion}
 use Rattle.std.proofs.lemmas.Bool.{eq-eqb, ne_eqb, cases_Bool, cases_eq, cond-true, cond-false}
 use Rattle.std.proofs.lemmas.List.FromFn.{length-map-range_with_len, get_or-map-range_with_len}
 use Rattle.std.specs.Str.{bytes_eq}
@@ -13,7 +13,7 @@ module _ (h : List ℕ → ℕ) where
   slots_of es = map (λ e. h e.spelling) es
 
   -- what holds of every entry holds of the one in a slot; and its slot is that
-  pub in_place_all : (P : Entry → Type 0) (k : ℕ) (es : List Entry) → 1 ≤ times k (slots_of es) → All P es → P (in_place h k es)
+  pub in_place_all : (P : Entry → Type 0) (k : ℕ) (es : List Entry) → 1 ≤ times k (slots_of es) → AllByRecursion P es → P (in_place h k es)
   in_place_all P k [] c a = absurd (omega arith)
   in_place_all P k (e ∷ es) c a = elim (cases_eq (h e.spelling) k) [
     | inl q ↦ rw (eq-eqb (h e.spelling) k q) a.0
@@ -103,7 +103,7 @@ module _ (h : List ℕ → ℕ) where
     pub by_slot_own : (k : ℕ) (d : Entry) → k < n → h (get_or (by_slot h n es) k d).spelling ≡ k
     by_slot_own k d l = ap (λ e. h e.spelling) (by_slot_get_or k d l) ∙ in_place_slot k es (omega (arith, once k l))
 
-    pub by_slot_all : (P : Entry → Type 0) → All P es → (k : ℕ) (d : Entry) → k < n → P (get_or (by_slot h n es) k d)
+    pub by_slot_all : (P : Entry → Type 0) → AllByRecursion P es → (k : ℕ) (d : Entry) → k < n → P (get_or (by_slot h n es) k d)
     by_slot_all P a k d l = rw (by_slot_get_or k d l) (in_place_all P k es (omega (arith, once k l)) a)
 
     pub by_slot_finds : (s : List ℕ) → h s < n → find (by_slot h n es) s ≡ find es s

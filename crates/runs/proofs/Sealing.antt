@@ -1,6 +1,6 @@
 -- An accepted seal has a lawful plate that holds the names entered, and its string has the length answered.
 use Rattle.std.proofs.Common.{◌≡◌, ℕ, suc, ◌+◌, ◌-◌, ◌*◌, ◌<◌, ◌≤◌, List, [], ◌∷◌, map, length, get_or, replicate, refl, ap, ◌∙◌, mod-lt, arith}
-use Rattle.std.specs.List.{AllByRecursion as All}
+use Rattle.std.specs.List.{AllByRecursion}
 use Rattle.std.proofs.lemmas.List.{length-map, length-append, length-replicate, take_all}
 use Rattle.std.proofs.ByRecursion.{All-get_or}
 use Rattle.hashing.specs.Generator.{tables}
@@ -80,7 +80,7 @@ module _ {N : Type 0} (spelling : N → List ℕ) where
     every : (P : Entry → Type 0) → ((x : N × ℕ) → x.1 < 65536 → P (entry_of spelling x)) → (k : ℕ) (d : Entry) → k < length plate.records → P (get_or plate.records k d)
     every P e k d l = by_slot_all home n (entered spelling m) once P (go m.names h.low) k d (omega (arith, counted))
       where
-        go : (xs : List (N × ℕ)) → All (λ x. x.1 < 65536) xs → All P (map (entry_of spelling) xs)
+        go : (xs : List (N × ℕ)) → AllByRecursion (λ x. x.1 < 65536) xs → AllByRecursion P (map (entry_of spelling) xs)
         go [] q = tt
         go (x ∷ xs) q = (e x q.0, go xs q.1)
 

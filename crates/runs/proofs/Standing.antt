@@ -1,6 +1,6 @@
 -- What holds of every reckoned run, stage by stage.
 use Rattle.std.proofs.Common.{◌≡◌, ℕ, zero, suc, ◌*◌, ◌%◌, ◌<◌, ◌≤◌, Bool, true, false, cond, not, ◌&&◌, eqb, ltb, leb, List, [], ◌∷◌, ◌++◌, map, length, take, set, Some, None, Option, sym, refl, ap, ◌∙◌, subst, mod-lt, add-one, arith}
-use Rattle.std.specs.List.{AllByRecursion as All}
+use Rattle.std.specs.List.{AllByRecursion}
 use Rattle.std.proofs.lemmas.Bool.{eqb-true, eqb-false, leb-true, ltb-true, not-true, and_parts, both_ways}
 use Rattle.std.proofs.lemmas.List.{length_push, length-map, map_push}
 use Rattle.std.proofs.ByRecursion.{All-push}
@@ -32,7 +32,7 @@ or_none : {F : Type 0} (o p : Option F) → or o p ≡ None → (o ≡ None) × 
 or_none None p h = (refl, h)
 or_none (Some f) p h = absurd (let z : ◌≡◌ {A = ℕ} 0 1 = cc in omega arith)
 
-clear : {F : Type 0} (os : List (Option F)) → first os ≡ None → All (λ o. o ≡ None) os
+clear : {F : Type 0} (os : List (Option F)) → first os ≡ None → AllByRecursion (λ o. o ≡ None) os
 clear [] h = tt
 clear (o ∷ os) h = let p = or_none o (first os) h in (p.0, clear os p.1)
 
@@ -86,17 +86,17 @@ module _ {N : Type 0} (spelling : N → List ℕ) where
 
   pub record Stands (m : Run N) : Type 0 where
     pub few : count m ≤ 1024
-    pub low : All (λ x. x.1 < 65536) m.names
+    pub low : AllByRecursion (λ x. x.1 < 65536) m.names
     pub spelled : Distinct [] (spellings spelling m.names)
     pub at_stage : AtStage m.stage m
 
   pub at : (m : Run N) (s : Stage) → Stands m → m.stage ≡ s → AtStage s m
   at m s h e = subst (λ t. AtStage t m) e h.at_stage
 
-  pub edges_of : (m : Run N) → 1 ≤ m.r → All (Edge m.r) (graph spelling m)
+  pub edges_of : (m : Run N) → 1 ≤ m.r → AllByRecursion (Edge m.r) (graph spelling m)
   edges_of m h = go m.names
     where
-      go : (xs : List (N × ℕ)) → All (Edge m.r) (map (λ x. triple (tables m.seed) (count m) m.r (spelling x.0)) xs)
+      go : (xs : List (N × ℕ)) → AllByRecursion (Edge m.r) (map (λ x. triple (tables m.seed) (count m) m.r (spelling x.0)) xs)
       go [] = tt
       go (x ∷ xs) = (triple_edge (tables m.seed) (count m) m.r (spelling x.0) h, go xs)
 
@@ -235,9 +235,9 @@ module _ {N : Type 0} (spelling : N → List ℕ) where
   pub stands_step : (m : Run N) (c : Call N) → Sound c → Stands m → Stands (step spelling m c)
   stands_step m c s h = after_call Stands m c (λ f e. h) (after_accepted m c s h)
 
-  pub stands_on : (m : Run N) (calls : List (Call N)) → All Sound calls → Stands m → Stands (continued spelling m calls)
+  pub stands_on : (m : Run N) (calls : List (Call N)) → AllByRecursion Sound calls → Stands m → Stands (continued spelling m calls)
   stands_on m [] s h = h
   stands_on m (c ∷ cs) s h = stands_on (step spelling m c) cs s.1 (stands_step m c s.0 h)
 
-  pub stands : (calls : List (Call N)) → All Sound calls → Stands (reckoned spelling calls)
+  pub stands : (calls : List (Call N)) → AllByRecursion Sound calls → Stands (reckoned spelling calls)
   stands calls s = stands_on beginning calls s (record { few = omega arith; low = tt; spelled = λ i j a b e. omega arith; at_stage = tt })

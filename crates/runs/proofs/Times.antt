@@ -1,6 +1,6 @@
 -- How often a number stands in a list, and the pigeonhole: n different numbers below n are each of them once.
 use Rattle.std.proofs.Common.{◌≡◌, ℕ, zero, suc, ◌+◌, ◌<◌, ◌≤◌, Bool, true, false, cond, eqb, List, [], ◌∷◌, ◌++◌, length, refl, ap, ◌∙◌, inl, inr, arith}
-use Rattle.std.specs.List.{AllByRecursion as All}
+use Rattle.std.specs.List.{AllByRecursion}
 use Rattle.std.proofs.lemmas.Bool.{eq-eqb, ne_eqb, cases_Bool, cases_eq, or_cases, or_parts, both_ways}
 use Rattle.runs.specs.Lists.{among}
 
@@ -74,7 +74,7 @@ tally_below (suc n) x xs h = elim (cases_eq n x) [
   | inr e ↦ omega (arith, one_false (eqb n x) (ne_eqb n x e), tally_below n x xs (omega arith))
 ]
 
-pub tally_all : (n : ℕ) (xs : List ℕ) → All (λ x. x < n) xs → tally n xs ≡ length xs
+pub tally_all : (n : ℕ) (xs : List ℕ) → AllByRecursion (λ x. x < n) xs → tally n xs ≡ length xs
 tally_all n [] h = tally_nil n
 tally_all n (x ∷ xs) h = omega (arith, tally_below n x xs h.0, tally_all n xs h.1)
 
@@ -89,5 +89,5 @@ tally_full (suc n) xs h t s l = elim (cases_eq s n) [
   | inr e ↦ tally_full n xs h (omega (arith, h n, tally_le n xs h)) s (omega arith)
 ]
 
-pub each_once : (n : ℕ) (xs : List ℕ) → length xs ≡ n → All (λ x. x < n) xs → Apart xs → (s : ℕ) → s < n → times s xs ≡ 1
+pub each_once : (n : ℕ) (xs : List ℕ) → length xs ≡ n → AllByRecursion (λ x. x < n) xs → Apart xs → (s : ℕ) → s < n → times s xs ≡ 1
 each_once n xs e low apart s l = tally_full n xs apart (tally_all n xs low ∙ e) s l

@@ -1,6 +1,6 @@
 -- Values of fitted vertices: they stay until the next accepted order, and each was answered by a fit.
 use Rattle.std.proofs.Common.{◌≡◌, ℕ, ◌*◌, ◌<◌, ◌≤◌, List, [], ◌∷◌, ◌++◌, length, get_or, Some, None, Option, sym, refl, ap, ◌∙◌, subst, inl, inr, append_assoc, arith}
-use Rattle.std.specs.List.{AllByRecursion as All}
+use Rattle.std.specs.List.{AllByRecursion}
 use Rattle.std.proofs.lemmas.Bool.{cases_eq}
 use Rattle.std.proofs.lemmas.List.{get_or-set_same, get_or-set_other, append-nil}
 use Rattle.std.proofs.ByRecursion.{All-get_or, All-push}
@@ -62,13 +62,13 @@ module _ {N : Type 0} (spelling : N → List ℕ) where
     keeps_accepted m reopen h new k ok = record { has_value = k.has_value; going = λ e. absurd (stages_differ Open Ordered (λ q. omega arith) e) }
     keeps_accepted m (seal l room) h new k ok = record { has_value = k.has_value; going = λ e. absurd (stages_differ Sealed Ordered (λ q. omega arith) e) }
 
-    keeps_on : (m : Run N) (calls : List (Call N)) → All Sound calls → Stands spelling m → NoOrder spelling m calls → Keeps vs i v m → Keeps vs i v (continued spelling m calls)
+    keeps_on : (m : Run N) (calls : List (Call N)) → AllByRecursion Sound calls → Stands spelling m → NoOrder spelling m calls → Keeps vs i v m → Keeps vs i v (continued spelling m calls)
     keeps_on m [] s h new k = k
     keeps_on m (c ∷ cs) s h new k =
         keeps_on (step spelling m c) cs s.1 (stands_step spelling m c s.0 h) new.1
         (after_call spelling (Keeps vs i v) m c (λ f e. k) (keeps_accepted m c h new.0 k))
 
-  pub value_stays : (m : Run N) → Stands spelling m → (l : Lent) (w : Meaning) (v tries : ℕ) (after : List (Call N)) → Permutes w → All Sound after →
+  pub value_stays : (m : Run N) → Stands spelling m → (l : Lent) (w : Meaning) (v tries : ℕ) (after : List (Call N)) → Permutes w → AllByRecursion Sound after →
       answer spelling m (fit l w) ≡ answered.Fitted v tries → NoOrder spelling (step spelling m (fit l w)) after →
       get_or (continued spelling (step spelling m (fit l w)) after).values (vertex spelling m) 0 ≡ v
   value_stays m h l w v tries after law sound e new =
@@ -161,12 +161,12 @@ module _ {N : Type 0} (spelling : N → List ℕ) where
         (λ f e high i b. later calls c (reckoned spelling calls) i (λ k q. let z : ◌≡◌ {A = ℕ} 0 1 = cc (sym (answer_when (reckoned spelling calls) c (Some f) e) ∙ q) in omega arith) refl refl (before high i b))
         (fitted_accepted c)
 
-  fitted_on : (done calls : List (Call N)) → All Sound done → All Sound calls → AllFitted done (reckoned spelling done) → AllFitted (done ++ calls) (reckoned spelling (done ++ calls))
+  fitted_on : (done calls : List (Call N)) → AllByRecursion Sound done → AllByRecursion Sound calls → AllFitted done (reckoned spelling done) → AllFitted (done ++ calls) (reckoned spelling (done ++ calls))
   fitted_on done [] a b h = subst (λ cs. AllFitted cs (reckoned spelling cs)) (sym (append-nil done)) h
   fitted_on done (c ∷ cs) a b h =
       subst (λ ds. AllFitted ds (reckoned spelling ds)) (append_assoc done (c ∷ []) cs)
       (fitted_on (done ++ c ∷ []) cs (All-push Sound done c a b.0) b.1
       (subst (AllFitted (done ++ c ∷ [])) (sym (continued_append _ done (c ∷ []))) (fitted_step done (stands spelling done a) h c)))
 
-  pub values_were_fitted : (calls : List (Call N)) → All Sound calls → AllFitted calls (reckoned spelling calls)
+  pub values_were_fitted : (calls : List (Call N)) → AllByRecursion Sound calls → AllFitted calls (reckoned spelling calls)
   values_were_fitted calls s = fitted_on [] calls tt s (λ high i b. absurd (omega arith))

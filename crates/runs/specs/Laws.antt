@@ -1,6 +1,6 @@
 -- What holds of every run of calls to one pressing, for every kind of name N and every spelling of its names.
 use Rattle.std.specs.Prelude.{◌≡◌, ℕ, ◌-◌, ◌<◌, ◌≤◌, Bool, true, false, cond, ◌↔◌, List, [], ◌∷◌, ◌++◌, map, length, get_or, Some, Option, ◌≢◌, slice_index, slice_index_or, slice_set}
-use Rattle.std.specs.List.{AllByRecursion as All}
+use Rattle.std.specs.List.{AllByRecursion}
 use Rattle.hashing.specs.Triples.{Triple}
 use Rattle.ways.specs.Permutation.{Meaning, asked, Permutes}
 use Rattle.runs.specs.declared.stage.Stage.TheVariants.{Mapped, Ordered, Fitted}
@@ -29,7 +29,7 @@ Sound (seal l room) = Unit {0}
 
 -- it holds of the run of every list of calls, in any number and order, some refused
 abbrev pub OfEveryRun : (N : Type 0) → ((N → List ℕ) → Run N → Type 0) → Type 0
-OfEveryRun N P = (spelling : N → List ℕ) (calls : List (Call N)) → All Sound calls → P spelling (reckoned spelling calls)
+OfEveryRun N P = (spelling : N → List ℕ) (calls : List (Call N)) → AllByRecursion Sound calls → P spelling (reckoned spelling calls)
 
 -- a refused call changes nothing
 abbrev pub RefusalChangesNothing : Type 0 → Type 0
@@ -175,14 +175,14 @@ FitIsFirst N = OfEveryRun N (λ spelling m.
 -- and the vertex has that value until the next accepted order
 abbrev pub ValueStays : Type 0 → Type 0
 ValueStays N = OfEveryRun N (λ spelling m.
-    (l : Lent) (w : Meaning) (v tries : ℕ) (after : List (Call N)) → Permutes w → All Sound after →
+    (l : Lent) (w : Meaning) (v tries : ℕ) (after : List (Call N)) → Permutes w → AllByRecursion Sound after →
     answer spelling m (fit l w) ≡ answered.Fitted v tries → NoOrder spelling (step spelling m (fit l w)) after →
     slice_index (continued spelling (step spelling m (fit l w)) after).values (vertex spelling m) ≡ v)
 
 -- every value of a fitted vertex came about so
 abbrev pub ValuesWereFitted : Type 0 → Type 0
 ValuesWereFitted N =
-    (spelling : N → List ℕ) (calls : List (Call N)) → All Sound calls → rank Ordered ≤ rank (reckoned spelling calls).stage →
+    (spelling : N → List ℕ) (calls : List (Call N)) → AllByRecursion Sound calls → rank Ordered ≤ rank (reckoned spelling calls).stage →
     (i : ℕ) → i < (reckoned spelling calls).level → WasFitted spelling calls (reckoned spelling calls) i
 
 -- and every other vertex has the value 0
