@@ -1,5 +1,5 @@
 -- The parts of a plate's string, each with its place and its bytes.
-use Rattle.std.specs.Prelude.{◌≡◌, ℕ, ◌+◌, ◌*◌, ◌<◌, ◌≤◌, Bool, true, false, ◌⊎◌, List, [], ◌∷◌, ◌++◌, map, length, get_or, take, drop, slice_index, slice_index_or}
+use Rattle.std.specs.Prelude.{◌≡◌, ℕ, ◌+◌, ◌*◌, ◌<◌, ◌≤◌, Bool, true, false, ◌⊎◌, List, [], ◌∷◌, ◌++◌, map, length, take, drop, slice_index, slice_index_or}
 use Rattle.runs.specs.Plates.{Entry, Plate, two, four, field, concat, record_field, plate_string}
 use Rattle.fields.specs.Writing.{written, part}
 
@@ -70,7 +70,7 @@ bytes kind p (record_in i) = record_field (slice_index_or p.records i no_entry)
 -- a plate has 2r values, and no spelling above 16 bytes
 pub record Measured (p : Plate) : Type 0 where
   pub value_count : length p.values ≡ 2 * p.r
-  pub short_spellings : (i : ℕ) → i < length p.records → length (get_or p.records i no_entry).spelling ≤ 16
+  pub short_spellings : (i : ℕ) → i < length p.records → length (slice_index_or p.records i no_entry).spelling ≤ 16
 
 -- a part is in a list
 abbrev pub Among : Part → List Part → Type 0

@@ -1,5 +1,5 @@
 -- The graph of some triples, held in lists of edges and vertices.
-use Rattle.std.specs.Prelude.{◌≡◌, ℕ, zero, suc, ◌+◌, ◌*◌, ◌<◌, ◌≤◌, Bool, true, false, cond, List, length, get_or, ◌==◌, slice_index_or, slice_set}
+use Rattle.std.specs.Prelude.{◌≡◌, ℕ, zero, suc, ◌+◌, ◌*◌, ◌<◌, ◌≤◌, Bool, true, false, cond, List, length, ◌==◌, slice_index_or, slice_set}
 use Rattle.std.specs.List.{AllByRecursion}
 use Rattle.hashing.specs.Triples.{Triple}
 use Rattle.runs.specs.Order.{touches, degree}
@@ -33,16 +33,16 @@ abbrev pub at_vertex : List Triple → ℕ → ℕ → Bool
 at_vertex es v j = touches v (slice_index_or es j nil)
 
 abbrev pub same1 : List Triple → ℕ → ℕ → Bool
-same1 es i j = (get_or es i nil).h1 == (get_or es j nil).h1
+same1 es i j = (slice_index_or es i nil).h1 == (slice_index_or es j nil).h1
 
 abbrev pub same2 : List Triple → ℕ → ℕ → Bool
-same2 es i j = (get_or es i nil).h2 == (get_or es j nil).h2
+same2 es i j = (slice_index_or es i nil).h2 == (slice_index_or es j nil).h2
 
 -- the row of the edge i
 pub record Linked (es : List Triple) (i : ℕ) (e : Edge) : Type 0 where
-  pub h0 : e.h0 ≡ (get_or es i nil).h0
-  pub h1 : e.h1 ≡ (get_or es i nil).h1
-  pub h2 : e.h2 ≡ (get_or es i nil).h2
+  pub h0 : e.h0 ≡ (slice_index_or es i nil).h0
+  pub h1 : e.h1 ≡ (slice_index_or es i nil).h1
+  pub h2 : e.h2 ≡ (slice_index_or es i nil).h2
   pub next1 : e.next1 ≡ latest (same1 es i) i
   pub next2 : e.next2 ≡ latest (same2 es i) i
 

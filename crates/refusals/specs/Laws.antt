@@ -1,12 +1,12 @@
 -- What a refusal by checks in their order means.
-use Rattle.std.specs.Prelude.{◌≡◌, ℕ, ◌<◌, List, length, get_or, Some, None, Option, slice_index_or}
+use Rattle.std.specs.Prelude.{◌≡◌, ℕ, ◌<◌, List, length, Some, None, Option, slice_index_or}
 use Rattle.refusals.specs.Checks.{first, each}
 
 -- one check is broken and gives the fault, and all earlier ones are met
 pub record RefusedBy {F : Type 0} (os : List (Option F)) (f : F) : Type 0 where
   pub which : ℕ
   pub within : which < length os
-  pub broken : get_or os which None ≡ Some f
+  pub broken : slice_index_or os which None ≡ Some f
   pub earlier : (j : ℕ) → j < which → slice_index_or os j None ≡ None
 
 -- of k numbered checks, the lowest that is broken gives the fault

@@ -1,5 +1,5 @@
 -- Levels, and the rotations that fit them. n is the number of names, and of slots.
-use Rattle.std.specs.Prelude.{◌≡◌, ℕ, zero, suc, ◌+◌, ◌%◌, ◌<◌, Bool, true, false, cond, not, ◌&&◌, ◌⊎◌, List, [], ◌∷◌, map, length, Some, None, filter, Option, ◌==◌, slice_index, slice_index_or}
+use Rattle.std.specs.Prelude.{◌≡◌, ℕ, zero, suc, ◌+◌, ◌%◌, ◌<◌, Bool, true, false, cond, not, ◌&&◌, ◌⊎◌, List, [], ◌∷◌, map, length, Some, None, filter, Option, ◌==◌, slice_index}
 use Rattle.hashing.specs.Triples.{Triple}
 use Rattle.runs.specs.Lists.{among, Distinct}
 use Rattle.runs.specs.Order.{joins}
@@ -41,7 +41,7 @@ pub record TwoInOne (ss : List ℕ) : Type 0 where
   pub other : ℕ
   pub before : one < other
   pub within : other < length ss
-  pub same : slice_index_or ss one 0 ≡ slice_index ss other
+  pub same : slice_index ss one ≡ slice_index ss other
 
 abbrev pub Blocked : List ℕ → List ℕ → Type 0
 Blocked filled ss = IntoFilled filled ss ⊎ TwoInOne ss

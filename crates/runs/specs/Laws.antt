@@ -1,5 +1,5 @@
 -- What holds of every run of calls to one pressing, for every kind of name N and every spelling of its names.
-use Rattle.std.specs.Prelude.{◌≡◌, ℕ, ◌-◌, ◌<◌, ◌≤◌, Bool, true, false, cond, ◌↔◌, List, [], ◌∷◌, ◌++◌, map, length, get_or, Some, Option, ◌≢◌, slice_index, slice_index_or, slice_set}
+use Rattle.std.specs.Prelude.{◌≡◌, ℕ, ◌-◌, ◌<◌, ◌≤◌, Bool, true, false, cond, ◌↔◌, List, [], ◌∷◌, ◌++◌, map, length, Some, Option, ◌≢◌, slice_index, slice_index_or, slice_set}
 use Rattle.std.specs.List.{AllByRecursion}
 use Rattle.hashing.specs.Triples.{Triple}
 use Rattle.ways.specs.Permutation.{Meaning, asked, Permutes}
@@ -150,7 +150,7 @@ module _ {N : Type 0} (spelling : N → List ℕ) where
     pub same_values : p.values ≡ m.values
     pub counts : length p.records ≡ count m
     pub holds : (i : ℕ) (d : Entry) → i < count m →
-        slice_index_or p.records (slot_of p (get_or (entered spelling m) i d).spelling) d ≡ slice_index_or (entered spelling m) i d
+        slice_index_or p.records (slot_of p (slice_index_or (entered spelling m) i d).spelling) d ≡ slice_index_or (entered spelling m) i d
     pub holds_only : (k : ℕ) (d : Entry) → k < length p.records →
         (i : ℕ) × (i < count m) × (slice_index_or p.records k d ≡ slice_index_or (entered spelling m) i d)
     pub finds : (s : List ℕ) → find p.records s ≡ find (entered spelling m) s
