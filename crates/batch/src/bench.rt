@@ -1,3 +1,6 @@
+ghost use Rattle.std.specs.Prelude.{◌≡◌, IfOk, replicate};
+ghost use Rattle.lending.specs.Full.{IsFull};
+
 use crate::stopped::{Call, Stopped, answered};
 use lending::{LONGEST_STRING, WorkLists, filled};
 use names::kind::Kind;
@@ -34,7 +37,11 @@ pub struct Sealed {
 
 impl<N: Kind> Bench<N> {
     /// A pressing without names; each row of its memory has this name.
-    pub fn new(heap: Global, name: N) -> Result<Bench<N>, AllocError> {
+    pub fn new(heap: Global, name: N) -> Result<Bench<N>, AllocError>
+        ensures lists { IfOk result (λ b. IsFull b.lists) }
+        ensures tries { IfOk result (λ b. b.tries.items ≡ replicate 2048 0) }
+        ensures string { IfOk result (λ b. b.string.items ≡ replicate 26645 0) }
+    {
         Ok(Bench {
             pressing: Pressing::new(),
             lists: WorkLists::new(heap, name)?,

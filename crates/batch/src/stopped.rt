@@ -1,3 +1,5 @@
+ghost use Rattle.std.specs.Prelude.{◌≡◌, Ok, Err, MatchResult};
+
 use crate::words::Refusal;
 use runs::fault::PressFault;
 use std::fmt;
@@ -42,7 +44,9 @@ impl fmt::Display for Stopped {
 }
 
 /// The answer to a call, or that the pressing stopped there.
-pub fn answered<T>(call: Call, answer: Result<T, PressFault>) -> Result<T, Stopped> {
+pub fn answered<T>(call: Call, answer: Result<T, PressFault>) -> Result<T, Stopped>
+    ensures { MatchResult answer (λ x. result ≡ Ok x) (λ f. result ≡ Err (record { call = call; fault = f })) }
+{
     match answer {
         Ok(x) => Ok(x),
         Err(fault) => Err(Stopped { call, fault }),

@@ -2,6 +2,9 @@
 
 #![tactic(auto)]
 
+ghost use Rattle.std.specs.Prelude.{◌≡◌, IfOk, replicate};
+ghost use Rattle.lending.specs.Full.{IsFull};
+
 use graph::rows::{Edge, Place, Row, Vertex};
 use hashing::tables::TABLE_NUMBERS;
 use names::kind::Kind;
@@ -67,7 +70,15 @@ fn lists<'a, N: Kind>(
     heap: &'a mut [Waiting],
     ordered: &'a mut [u16],
     slots: &'a mut [Option<u16>],
-) -> Lists<'a, 'a, 'a, 'a, 'a, 'a, 'a, N> {
+) -> Lists<'a, 'a, 'a, 'a, 'a, 'a, 'a, N>
+    ensures rows { result.rows.now ≡ rows.old }
+    ensures tables { result.tables.now ≡ tables.old }
+    ensures edges { result.edges.now ≡ edges.old }
+    ensures vertices { result.vertices.now ≡ vertices.old }
+    ensures heap { result.heap.now ≡ heap.old }
+    ensures ordered { result.ordered.now ≡ ordered.old }
+    ensures slots { result.slots.now ≡ slots.old }
+{
     Lists {
         rows,
         tables,
@@ -80,7 +91,10 @@ fn lists<'a, N: Kind>(
 }
 
 /// Memory with the same item at each of `len` places.
-pub fn filled<T: Copy>(heap: Global, item: T, len: usize) -> Result<Vec<T>, AllocError> {
+#[tactic(auto, using(std::proofs::lemmas::List::replicate_more))]
+pub fn filled<T: Copy>(heap: Global, item: T, len: usize) -> Result<Vec<T>, AllocError>
+    ensures { IfOk result (λ v. v.items ≡ replicate len item) }
+{
     let mut memory = Vec::new(heap);
     for _ in 0..len {
         memory.push(item)?;
@@ -90,7 +104,9 @@ pub fn filled<T: Copy>(heap: Global, item: T, len: usize) -> Result<Vec<T>, Allo
 
 impl<N: Kind> WorkLists<N> {
     /// Full lists with arbitrary contents; each row has this name.
-    pub fn new(heap: Global, name: N) -> Result<WorkLists<N>, AllocError> {
+    pub fn new(heap: Global, name: N) -> Result<WorkLists<N>, AllocError>
+        ensures { IfOk result IsFull }
+    {
         let row = Row {
             name,
             setting: 65535,
@@ -107,7 +123,15 @@ impl<N: Kind> WorkLists<N> {
     }
 
     /// Lends the lists whole.
-    pub fn lend(&mut self) -> Lists<'_, '_, '_, '_, '_, '_, '_, N> {
+    pub fn lend(&mut self) -> Lists<'_, '_, '_, '_, '_, '_, '_, N>
+        ensures rows { result.rows.now ≡ self.old.rows.items }
+        ensures tables { result.tables.now ≡ self.old.tables.items }
+        ensures edges { result.edges.now ≡ self.old.edges.items }
+        ensures vertices { result.vertices.now ≡ self.old.vertices.items }
+        ensures heap { result.heap.now ≡ self.old.heap.items }
+        ensures ordered { result.ordered.now ≡ self.old.ordered.items }
+        ensures slots { result.slots.now ≡ self.old.slots.items }
+    {
         lists(
             &mut self.rows,
             &mut self.tables,

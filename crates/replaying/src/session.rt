@@ -1,12 +1,23 @@
+ghost use Rattle.std.specs.Prelude.{◌≡◌, ◌++◌, ◌∷◌, [], OnOk, IfOk, fold, length};
+ghost use Rattle.lending.specs.Full.{IsFull};
+ghost use Rattle.replaying.specs.Performed.{run_answers, run_end, HoldsItsString};
+ghost use Rattle.replaying.specs.Lines.{reply_to, lines_of, sealed_after as after, front};
+ghost use Rattle.std.specs.Option.{option_copied};
+
 use crate::reply::Reply;
 use crate::said::{FULLY_LENT, Lent, ProposedWay, Said};
 use lending::{LONGEST_STRING, WorkLists, filled};
+use mixed_ways::kept::KeptList;
+use mixed_ways::mixed::Mixed;
+use names::kind::Kind;
 use pressing::press::Pressing;
 use runs::answer::Answer;
 use scripts::replaying::replay;
 use scripts::script::{Call, Step};
 use std::alloc::{AllocError, Global};
 use typing::typed::Typed;
+use ways::stride::StrideWay;
+use ways::way::Way;
 
 /// A line that is answered: by the next call, with a refusal of its name or its way, or as unread.
 #[derive(Clone, Copy, Drop)]
@@ -18,7 +29,9 @@ pub enum Line {
 
 impl Line {
     /// What the line is answered; the answer is that of its call.
-    pub fn reply(self, answer: Answer) -> Reply {
+    pub fn reply(self, answer: Answer) -> Reply
+        ensures { result ≡ reply_to self answer }
+    {
         match self {
             Line::Call => Reply::Called(answer),
             Line::Refused(number) => Reply::Refused(number),
@@ -42,9 +55,27 @@ pub struct Replayed {
     pub string: Vec<u8>,
 }
 
+// Performs a script from the beginning, over full lists.
+fn perform<N: Kind, W: Way>(
+    script: &[Step<N, W>],
+    lists: &mut WorkLists<N>,
+    string: &mut [u8],
+    answers: &mut [Answer],
+)
+    requires full { IsFull lists.old }
+    requires room { length answers.old ≡ length script.now }
+    ensures told { answers.new ≡ run_answers N.spelling W.meaning (length string.old) script.now }
+    ensures sealed { HoldsItsString N.spelling N.number (run_end N.spelling W.meaning (length string.old) script.now) string.new }
+{
+    let mut pressing = Pressing::new();
+    let _ = replay(script, &mut pressing, lists.lend(), string, answers);
+}
+
 impl<N: Typed> Session<N> {
     /// A session without lines.
-    pub fn new(heap: Global) -> Session<N> {
+    pub fn new(heap: Global) -> Session<N>
+        ensures { result.lines.items ≡ [] }
+    {
         Session {
             script: Vec::new(heap),
             lines: Vec::new(heap),
@@ -53,7 +84,9 @@ impl<N: Typed> Session<N> {
     }
 
     // Adds a call, with what it is lent.
-    fn add_call(&mut self, call: Call<N, ProposedWay>) -> Result<(), AllocError> {
+    fn add_call(&mut self, call: Call<N, ProposedWay>) -> Result<(), AllocError>
+        ensures { OnOk result (self.new.lines.items ≡ self.old.lines.items ++ (Line.Call ∷ [])) }
+    {
         self.script.push(Step {
             call,
             lengths: self.lent.lists,
@@ -64,7 +97,9 @@ impl<N: Typed> Session<N> {
     }
 
     /// Adds what a line says.
-    pub fn add(&mut self, said: Said<N>) -> Result<(), AllocError> {
+    pub fn add(&mut self, said: Said<N>) -> Result<(), AllocError>
+        ensures { OnOk result (self.new.lines.items ≡ self.old.lines.items ++ lines_of said) }
+    {
         match said {
             Said::Blank => {}
             Said::Lend(lent) => self.lent = lent,
@@ -77,38 +112,37 @@ impl<N: Typed> Session<N> {
 
     /// Makes the calls on a pressing without names. Its memory is full, of arbitrary contents, and
     /// each of its rows has this name.
-    pub fn replayed(&self, heap: Global, name: N) -> Result<Replayed, AllocError> {
+    pub fn replayed(&self, heap: Global, name: N) -> Result<Replayed, AllocError>
+        ensures told { IfOk result (λ r. r.answers.items ≡ run_answers N.spelling ⟦<Mixed<StrideWay, KeptList> as Way>⟧.meaning 26645 self.now.script.items) }
+        ensures sealed { IfOk result (λ r. HoldsItsString N.spelling N.number (run_end N.spelling ⟦<Mixed<StrideWay, KeptList> as Way>⟧.meaning 26645 self.now.script.items) r.string.items) }
+    {
         let mut lists = WorkLists::new(heap, name)?;
-        let mut replayed = Replayed::new(heap, self.script.len())?;
-        let mut pressing = Pressing::new();
-        let _ = replay(
-            &self.script,
-            &mut pressing,
-            lists.lend(),
-            &mut replayed.string,
-            &mut replayed.answers,
-        );
-        Ok(replayed)
+        let mut answers = filled(heap, Answer::Reopened, self.script.len())?;
+        let mut string = filled(heap, 0xA5, LONGEST_STRING)?;
+        perform(&self.script, &mut lists, &mut string, &mut answers);
+        Ok(Replayed { answers, string })
+    }
+}
+
+// The length of the string that the last seal wrote, after one more answer.
+fn sealed_after(sealed: Option<usize>, answer: Answer) -> Option<usize>
+    ensures { result ≡ after sealed answer }
+{
+    match answer {
+        Answer::Sealed(len) => Some(len),
+        _ => sealed,
     }
 }
 
 impl Replayed {
-    // Of so many calls, before the first of them.
-    fn new(heap: Global, calls: usize) -> Result<Replayed, AllocError> {
-        Ok(Replayed {
-            answers: filled(heap, Answer::Reopened, calls)?,
-            string: filled(heap, 0xA5, LONGEST_STRING)?,
-        })
-    }
-
     /// The plate string, once it is sealed.
-    pub fn plate(&self) -> Option<&[u8]> {
-        let mut sealed = None;
-        for answer in self.answers.iter() {
-            if let Answer::Sealed(len) = *answer {
-                sealed = Some(len);
-            }
-        }
+    pub fn plate(&self) -> Option<&[u8]>
+        ensures { option_copied result ≡ front (fold after None self.now.answers.items) self.now.string.items }
+    {
+        let sealed = self
+            .answers
+            .iter()
+            .fold(None, |sealed, answer| sealed_after(sealed, *answer));
         match sealed {
             Some(len) => self.string.get(0..len),
             None => None,

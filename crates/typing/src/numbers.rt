@@ -1,7 +1,13 @@
+ghost use Rattle.std.specs.Prelude.{◌≡◌, ◌<◌, Some, IfSome, min, if◌then◌else◌, nat_lt};
+ghost use Rattle.typing.specs.Numbers.{Writes, written_number};
+
 use std::num::IntErrorKind;
 
 /// The number that a word writes; one too large for 64 bits counts as the largest of them.
-pub fn number(word: &str) -> Option<u64> {
+pub fn number(word: &str) -> Option<u64>
+    ensures read { Writes word.now → result ≡ Some (min (written_number word.now) 18446744073709551615) }
+    ensures only { IfSome result (λ x. x < 18446744073709551615 → Writes word.now × (x ≡ written_number word.now)) }
+{
     match word.parse::<u64>() {
         Ok(x) => Some(x),
         Err(e) => match e.kind() {
@@ -12,16 +18,22 @@ pub fn number(word: &str) -> Option<u64> {
 }
 
 /// The number, or 0 where it is too large for 16 bits: for numbers whose range has no 0.
-pub fn or_0(x: u64) -> u16 {
+pub fn or_0(x: u64) -> u16
+    ensures { result ≡ (if nat_lt x 65536 then x else 0) }
+{
     u16::try_from(x).unwrap_or(0)
 }
 
 /// The number, or the largest of 16 bits where it is larger: for numbers whose range has 0.
-pub fn or_most(x: u64) -> u16 {
+pub fn or_most(x: u64) -> u16
+    ensures { result ≡ (if nat_lt x 65536 then x else 65535) }
+{
     u16::try_from(x).unwrap_or(u16::MAX)
 }
 
 /// The number as a seed, or 0, which is none, where it is too large for 32 bits.
-pub fn seed_or_0(x: u64) -> u32 {
+pub fn seed_or_0(x: u64) -> u32
+    ensures { result ≡ (if nat_lt x 4294967296 then x else 0) }
+{
     u32::try_from(x).unwrap_or(0)
 }

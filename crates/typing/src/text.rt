@@ -1,8 +1,14 @@
+ghost use Rattle.std.specs.Prelude.{◌≡◌, ◌++◌, OnErr, OnOk, string_bytes, IfOk, IsOk};
+
 use std::alloc::AllocError;
 use std::fmt;
 
-/// Adds a text that was made to the end of another.
-pub fn append(out: &mut String, text: Result<String, AllocError>) -> Result<(), AllocError> {
+/// Adds a text that was made to the end of another; where memory is short the other stays.
+pub fn append(out: &mut String, text: Result<String, AllocError>) -> Result<(), AllocError>
+    ensures added { OnOk result (IfOk text (λ t. string_bytes out.new ≡ string_bytes out.old ++ string_bytes t)) }
+    ensures made { OnOk result (IsOk text) }
+    ensures stays { OnErr result (string_bytes out.new ≡ string_bytes out.old) }
+{
     let text = text?;
     out.push_str(text.as_str())
 }
