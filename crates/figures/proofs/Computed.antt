@@ -1,5 +1,5 @@
 -- The worked figures, computed. The graph of the six names is computed once, and the fits over it.
-use Rattle.std.proofs.Common.{◌≡◌, ℕ, suc, cond, eqb, List, [], ◌∷◌, ◌++◌, map, length, get_or, take, set, replicate, Some, None, Option, refl, ap, ◌∙◌, ap₂}
+use Rattle.std.proofs.Common.{◌≡◌, ℕ, suc, cond, eqb, List, [], ◌∷◌, ◌++◌, map, length, get_or, take, set, replicate, Some, None, Ok, Err, Option, refl, ap, ◌∙◌, ap₂}
 use Rattle.refusals.specs.Checks.{unless, first}
 use Rattle.hashing.specs.Generator.{tables}
 use Rattle.hashing.specs.Triples.{Triple}
@@ -9,8 +9,8 @@ use Rattle.runs.specs.declared.stage.Stage.{Stage}
 use Rattle.runs.specs.declared.stage.Stage.TheVariants.{Open, Mapped, Ordered, Fitted}
 use Rattle.runs.specs.declared.fault.PressFault.{PressFault}
 use Rattle.runs.specs.declared.fault.PressFault.TheVariants.{WrongStage, ShortList, WaySize, Unfit}
-use Rattle.runs.specs.declared.answer.Answer.{Answer}
-use Rattle.runs.specs.declared.answer.Answer.TheVariants as answered
+use Rattle.runs.specs.Answers.{Answer}
+use Rattle.runs.specs.declared.answer.Outcome.TheVariants as answered
 use Rattle.runs.specs.Order.{order}
 use Rattle.runs.specs.Fitting.{slot, level_of, offset, turned, first_fit}
 use Rattle.runs.specs.Runs.{Call, enter, map_to, order_by, fit, seal, Run, is, ample, found, graph, triples, unless_refused, with_level, step, beginning, continued, reckoned, fit_answer, answer, answers, sealed_string}
@@ -48,7 +48,7 @@ module _ (es : List Triple) (m : Run (List ℕ)) (w : Meaning) where
   known_step = unless_refused fault (after hit) (λ f. m)
 
   abbrev known_answer : Answer
-  known_answer = unless_refused fault (fit_answer hit) (λ f. answered.Refused f)
+  known_answer = unless_refused fault (Ok (fit_answer hit)) (λ f. Err f)
 
 step_after : (m : Run (List ℕ)) (o : Option (ℕ × ℕ)) (f : Option PressFault) → unless_refused f (with_level bytes m o) (λ f. m) ≡ unless_refused f (after (graph bytes m) m (stride_meaning 1 0 1) o) (λ f. m)
 step_after m None f = refl
@@ -113,16 +113,16 @@ entries = map (λ x. enter lent x.0 x.1) rows
 opened : Run (List ℕ)
 opened = record { stage = Open; names = rows; r = 0; seed = 0; level = 0; values = []; filled = [] }
 
-six_entered : Goes beginning entries (map (λ x. answered.Entered) rows) (map (λ x. Open) rows) opened
+six_entered : Goes beginning entries (map (λ x. Ok answered.Entered) rows) (map (λ x. Open) rows) opened
 unfolding opened
 six_entered = record { answers_so = refl; stages_so = refl; ends = refl }
 
-six_mapped : (answer bytes opened (map_to lent 3 1) ≡ answered.Mapped) × (step bytes opened (map_to lent 3 1) ≡ six Mapped 0 [] [])
+six_mapped : (answer bytes opened (map_to lent 3 1) ≡ Ok answered.Mapped) × (step bytes opened (map_to lent 3 1) ≡ six Mapped 0 [] [])
 unfolding tables opened
 six_mapped = (refl, refl)
 
-six_order : answer bytes (six Mapped 0 [] []) (order_by lent) ≡ answered.Ordered 5
-six_order = ap (λ es. answered.Ordered (length (order es 3))) six_graph
+six_order : answer bytes (six Mapped 0 [] []) (order_by lent) ≡ Ok (answered.Ordered 5)
+six_order = ap (λ es. Ok (answered.Ordered (length (order es 3)))) six_graph
 
 then : (m k end : Run (List ℕ)) (cs ds : List (Call (List ℕ))) (qs rs : List Answer) (ts ss : List Stage) → Goes m cs qs ts k → Goes k ds rs ss end → Goes m (cs ++ ds) (qs ++ rs) (ts ++ ss) end
 then m k end cs ds qs rs ts ss h j = record {
@@ -146,11 +146,11 @@ then m k end cs ds qs rs ts ss h j = record {
 abbrev ready : Run (List ℕ)
 ready = six Ordered 0 zeros []
 
-six_go : Goes beginning six_names (map (λ x. answered.Entered) rows ++ answered.Mapped ∷ answered.Ordered 5 ∷ []) (map (λ x. Open) rows ++ Mapped ∷ Ordered ∷ []) ready
+six_go : Goes beginning six_names (map (λ x. Ok answered.Entered) rows ++ Ok answered.Mapped ∷ Ok (answered.Ordered 5) ∷ []) (map (λ x. Open) rows ++ Mapped ∷ Ordered ∷ []) ready
 six_go =
-    then beginning opened ready entries (map_to lent 3 1 ∷ order_by lent ∷ []) (map (λ x. answered.Entered) rows) (answered.Mapped ∷ answered.Ordered 5 ∷ []) (map (λ x. Open) rows) (Mapped ∷ Ordered ∷ []) six_entered
-    (go_on opened (six Mapped 0 [] []) (map_to lent 3 1) answered.Mapped six_mapped.0 six_mapped.1 (order_by lent ∷ []) (answered.Ordered 5 ∷ []) (Ordered ∷ []) ready
-    (go_on (six Mapped 0 [] []) ready (order_by lent) (answered.Ordered 5) six_order refl [] [] [] ready (stay ready)))
+    then beginning opened ready entries (map_to lent 3 1 ∷ order_by lent ∷ []) (map (λ x. Ok answered.Entered) rows) (Ok answered.Mapped ∷ Ok (answered.Ordered 5) ∷ []) (map (λ x. Open) rows) (Mapped ∷ Ordered ∷ []) six_entered
+    (go_on opened (six Mapped 0 [] []) (map_to lent 3 1) (Ok answered.Mapped) six_mapped.0 six_mapped.1 (order_by lent ∷ []) (Ok (answered.Ordered 5) ∷ []) (Ordered ∷ []) ready
+    (go_on (six Mapped 0 [] []) ready (order_by lent) (Ok (answered.Ordered 5)) six_order refl [] [] [] ready (stay ready)))
 
 -- 4. the fits by a way of start 1, and of start 0
 
@@ -158,24 +158,24 @@ abbrev done : Run (List ℕ)
 done = six Fitted 5 (5 ∷ 0 ∷ 0 ∷ 1 ∷ 0 ∷ 2 ∷ []) (0 ∷ 2 ∷ 5 ∷ 3 ∷ 4 ∷ 1 ∷ [])
 
 fits_go : Goes ready (fits 1 5)
-    (answered.Fitted 0 1 ∷ answered.Fitted 1 1 ∷ answered.Fitted 2 1 ∷ answered.Fitted 5 3 ∷ answered.Fitted 0 3 ∷ [])
+    (Ok (answered.Fitted 0 1) ∷ Ok (answered.Fitted 1 1) ∷ Ok (answered.Fitted 2 1) ∷ Ok (answered.Fitted 5 3) ∷ Ok (answered.Fitted 0 3) ∷ [])
     (Ordered ∷ Ordered ∷ Ordered ∷ Ordered ∷ Fitted ∷ []) done
 fits_go =
-    level_goes 1 0 zeros [] (answered.Fitted 0 1) Ordered 1 zeros [] refl refl _ _ _ _
-    (level_goes 1 1 zeros [] (answered.Fitted 1 1) Ordered 2 (0 ∷ 0 ∷ 0 ∷ 1 ∷ 0 ∷ 0 ∷ []) (0 ∷ 2 ∷ []) refl refl _ _ _ _
-    (level_goes 1 2 (0 ∷ 0 ∷ 0 ∷ 1 ∷ 0 ∷ 0 ∷ []) (0 ∷ 2 ∷ []) (answered.Fitted 2 1) Ordered 3 (0 ∷ 0 ∷ 0 ∷ 1 ∷ 0 ∷ 2 ∷ []) (0 ∷ 2 ∷ 5 ∷ []) refl refl _ _ _ _
-    (level_goes 1 3 (0 ∷ 0 ∷ 0 ∷ 1 ∷ 0 ∷ 2 ∷ []) (0 ∷ 2 ∷ 5 ∷ []) (answered.Fitted 5 3) Ordered 4 (5 ∷ 0 ∷ 0 ∷ 1 ∷ 0 ∷ 2 ∷ []) (0 ∷ 2 ∷ 5 ∷ 3 ∷ 4 ∷ []) refl refl _ _ _ _
-    (level_goes 1 4 (5 ∷ 0 ∷ 0 ∷ 1 ∷ 0 ∷ 2 ∷ []) (0 ∷ 2 ∷ 5 ∷ 3 ∷ 4 ∷ []) (answered.Fitted 0 3) Fitted 5 (5 ∷ 0 ∷ 0 ∷ 1 ∷ 0 ∷ 2 ∷ []) (0 ∷ 2 ∷ 5 ∷ 3 ∷ 4 ∷ 1 ∷ []) refl refl _ _ _ _
+    level_goes 1 0 zeros [] (Ok (answered.Fitted 0 1)) Ordered 1 zeros [] refl refl _ _ _ _
+    (level_goes 1 1 zeros [] (Ok (answered.Fitted 1 1)) Ordered 2 (0 ∷ 0 ∷ 0 ∷ 1 ∷ 0 ∷ 0 ∷ []) (0 ∷ 2 ∷ []) refl refl _ _ _ _
+    (level_goes 1 2 (0 ∷ 0 ∷ 0 ∷ 1 ∷ 0 ∷ 0 ∷ []) (0 ∷ 2 ∷ []) (Ok (answered.Fitted 2 1)) Ordered 3 (0 ∷ 0 ∷ 0 ∷ 1 ∷ 0 ∷ 2 ∷ []) (0 ∷ 2 ∷ 5 ∷ []) refl refl _ _ _ _
+    (level_goes 1 3 (0 ∷ 0 ∷ 0 ∷ 1 ∷ 0 ∷ 2 ∷ []) (0 ∷ 2 ∷ 5 ∷ []) (Ok (answered.Fitted 5 3)) Ordered 4 (5 ∷ 0 ∷ 0 ∷ 1 ∷ 0 ∷ 2 ∷ []) (0 ∷ 2 ∷ 5 ∷ 3 ∷ 4 ∷ []) refl refl _ _ _ _
+    (level_goes 1 4 (5 ∷ 0 ∷ 0 ∷ 1 ∷ 0 ∷ 2 ∷ []) (0 ∷ 2 ∷ 5 ∷ 3 ∷ 4 ∷ []) (Ok (answered.Fitted 0 3)) Fitted 5 (5 ∷ 0 ∷ 0 ∷ 1 ∷ 0 ∷ 2 ∷ []) (0 ∷ 2 ∷ 5 ∷ 3 ∷ 4 ∷ 1 ∷ []) refl refl _ _ _ _
     (stay done)))))
 
 stuck_go : Goes ready (fits 0 4)
-    (answered.Fitted 0 1 ∷ answered.Fitted 0 1 ∷ answered.Fitted 0 1 ∷ answered.Refused (Unfit 3) ∷ [])
+    (Ok (answered.Fitted 0 1) ∷ Ok (answered.Fitted 0 1) ∷ Ok (answered.Fitted 0 1) ∷ Err (Unfit 3) ∷ [])
     (Ordered ∷ Ordered ∷ Ordered ∷ Ordered ∷ []) (six Ordered 3 zeros (5 ∷ 1 ∷ 3 ∷ []))
 stuck_go =
-    level_goes 0 0 zeros [] (answered.Fitted 0 1) Ordered 1 zeros [] refl refl _ _ _ _
-    (level_goes 0 1 zeros [] (answered.Fitted 0 1) Ordered 2 zeros (5 ∷ 1 ∷ []) refl refl _ _ _ _
-    (level_goes 0 2 zeros (5 ∷ 1 ∷ []) (answered.Fitted 0 1) Ordered 3 zeros (5 ∷ 1 ∷ 3 ∷ []) refl refl _ _ _ _
-    (level_goes 0 3 zeros (5 ∷ 1 ∷ 3 ∷ []) (answered.Refused (Unfit 3)) Ordered 3 zeros (5 ∷ 1 ∷ 3 ∷ []) refl refl _ _ _ _
+    level_goes 0 0 zeros [] (Ok (answered.Fitted 0 1)) Ordered 1 zeros [] refl refl _ _ _ _
+    (level_goes 0 1 zeros [] (Ok (answered.Fitted 0 1)) Ordered 2 zeros (5 ∷ 1 ∷ []) refl refl _ _ _ _
+    (level_goes 0 2 zeros (5 ∷ 1 ∷ []) (Ok (answered.Fitted 0 1)) Ordered 3 zeros (5 ∷ 1 ∷ 3 ∷ []) refl refl _ _ _ _
+    (level_goes 0 3 zeros (5 ∷ 1 ∷ 3 ∷ []) (Err (Unfit 3)) Ordered 3 zeros (5 ∷ 1 ∷ 3 ∷ []) refl refl _ _ _ _
     (stay (six Ordered 3 zeros (5 ∷ 1 ∷ 3 ∷ []))))))
 
 all_end : six_fitted ≡ done
@@ -190,7 +190,7 @@ one_reckoned : reckoned bytes one_name ≡ one_fitted
 unfolding tables one_fitted
 one_reckoned = refl
 
-one_seals : answers bytes one_fitted (seal lent 47 ∷ []) ≡ answered.Sealed 47 ∷ []
+one_seals : answers bytes one_fitted (seal lent 47 ∷ []) ≡ Ok (answered.Sealed 47) ∷ []
 unfolding one_fitted
 one_seals = refl
 
@@ -203,10 +203,10 @@ string_so = refl
 pub triples_are : graph bytes six_ordered ≡ six_triples
 triples_are = ap (graph bytes) six_go.ends ∙ six_graph
 
-pub answers_are : answers bytes beginning six_names ≡ replicate 6 answered.Entered ++ answered.Mapped ∷ answered.Ordered 5 ∷ []
+pub answers_are : answers bytes beginning six_names ≡ replicate 6 (Ok answered.Entered) ++ Ok answered.Mapped ∷ Ok (answered.Ordered 5) ∷ []
 answers_are = six_go.answers_so
 
-pub fits_are : answers bytes six_ordered (fits 1 5) ≡ answered.Fitted 0 1 ∷ answered.Fitted 1 1 ∷ answered.Fitted 2 1 ∷ answered.Fitted 5 3 ∷ answered.Fitted 0 3 ∷ []
+pub fits_are : answers bytes six_ordered (fits 1 5) ≡ Ok (answered.Fitted 0 1) ∷ Ok (answered.Fitted 1 1) ∷ Ok (answered.Fitted 2 1) ∷ Ok (answered.Fitted 5 3) ∷ Ok (answered.Fitted 0 3) ∷ []
 fits_are = ap (λ m. answers bytes m (fits 1 5)) six_go.ends ∙ fits_go.answers_so
 
 pub stages_are : stages six_ordered (fits 1 5) ≡ Ordered ∷ Ordered ∷ Ordered ∷ Ordered ∷ Fitted ∷ []
@@ -218,10 +218,10 @@ values_are = ap (λ (m : Run (List ℕ)). m.values) all_end
 pub slots_are : map (slot 6 six_fitted.values) (graph bytes six_fitted) ≡ 3 ∷ 4 ∷ 1 ∷ 5 ∷ 0 ∷ 2 ∷ []
 slots_are = ap (λ m. map (slot 6 m.values) (graph bytes m)) all_end ∙ ap (map (slot 6 done.values)) six_graph
 
-pub unfit_at_three : answers bytes six_ordered (fits 0 4) ≡ answered.Fitted 0 1 ∷ answered.Fitted 0 1 ∷ answered.Fitted 0 1 ∷ answered.Refused (Unfit 3) ∷ []
+pub unfit_at_three : answers bytes six_ordered (fits 0 4) ≡ Ok (answered.Fitted 0 1) ∷ Ok (answered.Fitted 0 1) ∷ Ok (answered.Fitted 0 1) ∷ Err (Unfit 3) ∷ []
 unfit_at_three = ap (λ m. answers bytes m (fits 0 4)) six_go.ends ∙ stuck_go.answers_so
 
-pub seals : answers bytes (reckoned bytes one_name) (seal lent 47 ∷ []) ≡ answered.Sealed 47 ∷ []
+pub seals : answers bytes (reckoned bytes one_name) (seal lent 47 ∷ []) ≡ Ok (answered.Sealed 47) ∷ []
 seals = ap (λ m. answers bytes m (seal lent 47 ∷ [])) one_reckoned ∙ one_seals
 
 pub string_is : sealed_string bytes 1 (reckoned bytes one_name) ≡ one_string

@@ -1,5 +1,5 @@
 -- The worked figures, as a list of statements.
-use Rattle.std.specs.Prelude.{◌≡◌, ℕ, List, [], ◌∷◌, ◌++◌, map, replicate, Some, None, Option}
+use Rattle.std.specs.Prelude.{◌≡◌, ℕ, List, [], ◌∷◌, ◌++◌, map, replicate, Some, None, Ok, Err, Option}
 use Rattle.std.specs.List.{range_with_len}
 use Rattle.names.specs.Faults as names
 use Rattle.names.specs.Cells.{cell_spelling, cell_fault}
@@ -10,7 +10,7 @@ use Rattle.ways.specs.Permutation.{asked}
 use Rattle.ways.specs.Stride.{StrideRule, stride_meaning}
 use Rattle.runs.specs.declared.stage.Stage.TheVariants.{Ordered, Fitted}
 use Rattle.runs.specs.declared.fault.PressFault.TheVariants.{Unfit}
-use Rattle.runs.specs.declared.answer.Answer.TheVariants as answered
+use Rattle.runs.specs.declared.answer.Outcome.TheVariants as answered
 use Rattle.runs.specs.Order.{order}
 use Rattle.runs.specs.Fitting.{slot}
 use Rattle.runs.specs.Runs.{seal, graph, beginning, reckoned, answers, sealed_string}
@@ -51,18 +51,18 @@ figures =
     (order six_triples 3 ≡ 1 ∷ 3 ∷ 5 ∷ 0 ∷ 2 ∷ []) ∷
     -- six names that have these triples, entered, mapped and ordered
     (graph bytes six_ordered ≡ six_triples) ∷
-    (answers bytes beginning six_names ≡ replicate 6 answered.Entered ++ answered.Mapped ∷ answered.Ordered 5 ∷ []) ∷
+    (answers bytes beginning six_names ≡ replicate 6 (Ok answered.Entered) ++ Ok answered.Mapped ∷ Ok (answered.Ordered 5) ∷ []) ∷
     -- fitted with start 1: rotations and tries, the stage after each fit, values and slots
     (answers bytes six_ordered (fits 1 5) ≡
-    answered.Fitted 0 1 ∷ answered.Fitted 1 1 ∷ answered.Fitted 2 1 ∷ answered.Fitted 5 3 ∷ answered.Fitted 0 3 ∷ []) ∷
+    Ok (answered.Fitted 0 1) ∷ Ok (answered.Fitted 1 1) ∷ Ok (answered.Fitted 2 1) ∷ Ok (answered.Fitted 5 3) ∷ Ok (answered.Fitted 0 3) ∷ []) ∷
     (stages six_ordered (fits 1 5) ≡ Ordered ∷ Ordered ∷ Ordered ∷ Ordered ∷ Fitted ∷ []) ∷
     (six_fitted.values ≡ 5 ∷ 0 ∷ 0 ∷ 1 ∷ 0 ∷ 2 ∷ []) ∷
     (map (slot 6 six_fitted.values) (graph bytes six_fitted) ≡ 3 ∷ 4 ∷ 1 ∷ 5 ∷ 0 ∷ 2 ∷ []) ∷
     -- with start 0 level 3 is unfit
     (answers bytes six_ordered (fits 0 4) ≡
-    answered.Fitted 0 1 ∷ answered.Fitted 0 1 ∷ answered.Fitted 0 1 ∷ answered.Refused (Unfit 3) ∷ []) ∷
+    Ok (answered.Fitted 0 1) ∷ Ok (answered.Fitted 0 1) ∷ Ok (answered.Fitted 0 1) ∷ Err (Unfit 3) ∷ []) ∷
     -- name A with setting 300, r 1 and seed 1 is sealed in 47 bytes
-    (answers bytes (reckoned bytes one_name) (seal lent 47 ∷ []) ≡ answered.Sealed 47 ∷ []) ∷
+    (answers bytes (reckoned bytes one_name) (seal lent 47 ∷ []) ≡ Ok (answered.Sealed 47) ∷ []) ∷
     (sealed_string bytes 1 (reckoned bytes one_name) ≡ one_string) ∷
     []
 

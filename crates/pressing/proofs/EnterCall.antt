@@ -10,8 +10,8 @@ use Rattle.runs.specs.declared.stage.Stage.{Stage}
 use Rattle.runs.specs.declared.stage.Stage.TheVariants.{Open, Sealed}
 use Rattle.runs.specs.declared.fault.PressFault.{PressFault}
 use Rattle.runs.specs.declared.fault.PressFault.TheVariants.{WrongStage, ShortList, TooManyNames, SpellingEntered}
-use Rattle.runs.specs.declared.answer.Answer.{Answer}
-use Rattle.runs.specs.declared.answer.Answer.TheVariants as answered
+use Rattle.runs.specs.declared.answer.Outcome.{Outcome}
+use Rattle.runs.specs.declared.answer.Outcome.TheVariants as answered
 use Rattle.runs.specs.Lists.{has}
 use Rattle.runs.specs.Runs.{ample, Run, enter, reopen, is, rank, count, spellings, with_name, led_to, refusal}
 use Rattle.pressing.specs.declared.press.Pressing.{Pressing}
@@ -62,7 +62,7 @@ module _ {N : Type 0} (spelling : N → List ℕ) (x : N) (v : ℕ) (p : Pressin
   abbrev of_count : List (Option PressFault)
   of_count = unless (ltb p.count 1024) TooManyNames ∷ []
 
-  abbrev entered : Unit {0} → Answer
+  abbrev entered : Unit {0} → Outcome
   entered _ = answered.Entered
 
   refuses : (f : PressFault) → enter_gate p l ≡ Some f → EnterDone spelling x v p l (Err f) p l
@@ -145,7 +145,7 @@ module _ {N : Type 0} (spelling : N → List ℕ) (p : Pressing N) where
   reopen_split : (m : Run N) → Kept spelling m p → refusal spelling m reopen ≡ or (reopen_gate p) None
   reopen_split m k = ap (λ s. first (unless (not (is s Sealed)) WrongStage ∷ [])) (sym k.stage) ∙ sym (or_none (reopen_gate p))
 
-  abbrev reopened : Unit {0} → Answer
+  abbrev reopened : Unit {0} → Outcome
   reopened _ = answered.Reopened
 
   pub reopen_wrong : (r : Result (Unit {0}) PressFault) {f : PressFault} → next_stage Reopen p.stage ≡ Err f → r ≡ Err f → ReopenDone spelling p r p

@@ -20,8 +20,8 @@ use Rattle.runs.specs.declared.stage.Stage.{Stage}
 use Rattle.runs.specs.declared.stage.Stage.TheVariants.{Open}
 use Rattle.runs.specs.declared.fault.PressFault.{PressFault}
 use Rattle.runs.specs.declared.fault.PressFault.TheVariants.{WrongStage, ShortList, NoName, VertexCount, Seed, Clash}
-use Rattle.runs.specs.declared.answer.Answer.{Answer}
-use Rattle.runs.specs.declared.answer.Answer.TheVariants as answered
+use Rattle.runs.specs.declared.answer.Outcome.{Outcome}
+use Rattle.runs.specs.declared.answer.Outcome.TheVariants as answered
 use Rattle.runs.specs.Faults.{of_hashing}
 use Rattle.runs.specs.Lists.{repeats}
 use Rattle.runs.specs.Runs.{ample, Run, map_to, is, count, triples, same_triple, with_map, refusal}
@@ -79,7 +79,7 @@ module _ {N : Type 0} (spelling : N → List ℕ) (r seed : ℕ) (p : Pressing N
       let same : first (checked p.stage p.count) ≡ first (checked m.stage (count m)) = λ i. first (checked (a i) (b i)) in
       first_behind (checked m.stage (count m)) (unless (not (clashing m)) Clash) ∙ ap (λ o. or o (tail m)) (sym same)
 
-  abbrev mapped : Unit {0} → Answer
+  abbrev mapped : Unit {0} → Outcome
   mapped _ = answered.Mapped
 
   refuses : (f : PressFault) → (f ≡ Clash → ⊥) → map_gate p l r seed ≡ Some f → MapDone spelling r seed p l (Err f) p l

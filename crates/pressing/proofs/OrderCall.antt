@@ -14,8 +14,8 @@ use Rattle.runs.specs.declared.stage.Stage.{Stage}
 use Rattle.runs.specs.declared.stage.Stage.TheVariants.{Mapped}
 use Rattle.runs.specs.declared.fault.PressFault.{PressFault}
 use Rattle.runs.specs.declared.fault.PressFault.TheVariants.{WrongStage, ShortList}
-use Rattle.runs.specs.declared.answer.Answer.{Answer}
-use Rattle.runs.specs.declared.answer.Answer.TheVariants as answered
+use Rattle.runs.specs.declared.answer.Outcome.{Outcome}
+use Rattle.runs.specs.declared.answer.Outcome.TheVariants as answered
 use Rattle.runs.specs.Runs.{ample, Run, order_by, is, rank, count, graph, vertex_order, with_order, refusal}
 use Rattle.runs.proofs.Standing.{is_true, length_graph}
 use Rattle.pressing.specs.declared.press.Pressing.{Pressing}
@@ -53,7 +53,7 @@ module _ {N : Type 0} (spelling : N → List ℕ) (p : Pressing N) (l : Memory N
   split : (m : Run N) → Kept spelling m p → refusal spelling m (order_by (lent l)) ≡ or (order_gate p l) None
   split m k = ap (λ s. first (unless (is s Mapped) WrongStage ∷ of_lengths)) (sym k.stage) ∙ sym (or_none (order_gate p l))
 
-  abbrev ordered : ℕ → Answer
+  abbrev ordered : ℕ → Outcome
   ordered k = answered.Ordered k
 
   refuses : (f : PressFault) → order_gate p l ≡ Some f → OrderDone spelling p l (Err f) p l

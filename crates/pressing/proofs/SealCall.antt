@@ -13,8 +13,8 @@ use Rattle.runs.specs.declared.stage.Stage.{Stage}
 use Rattle.runs.specs.declared.stage.Stage.TheVariants.{Ordered, Fitted, Sealed}
 use Rattle.runs.specs.declared.fault.PressFault.{PressFault}
 use Rattle.runs.specs.declared.fault.PressFault.TheVariants.{WrongStage, ShortList, ShortString}
-use Rattle.runs.specs.declared.answer.Answer.{Answer}
-use Rattle.runs.specs.declared.answer.Answer.TheVariants as answered
+use Rattle.runs.specs.declared.answer.Outcome.{Outcome}
+use Rattle.runs.specs.declared.answer.Outcome.TheVariants as answered
 use Rattle.runs.specs.Fitting.{slot, settles}
 use Rattle.runs.specs.Plates.{Entry, slot_of}
 use Rattle.runs.specs.Runs.{ample, Run, seal, is, rank, count, graph, vertex_order, earlier, led_to, refusal, string_length, entry_of, entered, pressed}
@@ -129,7 +129,7 @@ module _ {N : Type 0} (spelling : N → List ℕ) (kind : ℕ) (p : Pressing N) 
   abbrev of_lengths : List (Option PressFault)
   of_lengths = unless (ample (lent l)) ShortList ∷ of_string
 
-  abbrev sealed_answer : ℕ → Answer
+  abbrev sealed_answer : ℕ → Outcome
   sealed_answer k = answered.Sealed k
 
   refuses : (f : PressFault) → gate ≡ Some f → SealDone spelling kind p l string (Err f) p l string

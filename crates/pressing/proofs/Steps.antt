@@ -6,8 +6,7 @@ use Rattle.refusals.specs.Checks.{unless, or, first, with_value}
 use Rattle.runs.specs.declared.stage.Stage.{Stage}
 use Rattle.runs.specs.declared.fault.PressFault.{PressFault}
 use Rattle.runs.specs.declared.fault.PressFault.TheVariants.{WrongStage}
-use Rattle.runs.specs.declared.answer.Answer.{Answer}
-use Rattle.runs.specs.declared.answer.Answer.TheVariants.{Refused}
+use Rattle.runs.specs.declared.answer.Outcome.{Outcome}
 use Rattle.runs.specs.Runs.{ample, Call, Run, refusal, unless_refused, accepted, step, continued, beginning, answer_accepted, answer}
 use Rattle.runs.specs.Laws.{Sound}
 use Rattle.runs.proofs.Standing.{Stands, stands}
@@ -81,21 +80,21 @@ module _ {N : Type 0} (spelling : N → List ℕ) where
   pub run_stands : (m : Run N) → IsRun spelling m → Stands spelling m
   run_stands m k = subst (Stands spelling) (sym k.comes_to) (stands spelling k.calls k.sound)
 
-  refused_answer : (m : Run N) (c : Call N) (f : PressFault) → refusal spelling m c ≡ Some f → answer spelling m c ≡ Refused f
-  refused_answer m c f e = ap (λ o. unless_refused o (answer_accepted spelling m c) (λ g. Refused g)) e
+  refused_answer : (m : Run N) (c : Call N) (f : PressFault) → refusal spelling m c ≡ Some f → answer spelling m c ≡ Err f
+  refused_answer m c f e = ap (λ o. unless_refused o (Ok (answer_accepted spelling m c)) (λ g. Err g)) e
 
   pub refused_run : (m : Run N) (c : Call N) (f : PressFault) → refusal spelling m c ≡ Some f → step spelling m c ≡ m
   refused_run m c f e = ap (λ o. unless_refused o (accepted spelling m c) (λ g. m)) e
 
-  accepted_answer : (m : Run N) (c : Call N) → refusal spelling m c ≡ None → answer spelling m c ≡ answer_accepted spelling m c
-  accepted_answer m c e = ap (λ o. unless_refused o (answer_accepted spelling m c) (λ g. Refused g)) e
+  accepted_answer : (m : Run N) (c : Call N) → refusal spelling m c ≡ None → answer spelling m c ≡ Ok (answer_accepted spelling m c)
+  accepted_answer m c e = ap (λ o. unless_refused o (Ok (answer_accepted spelling m c)) (λ g. Err g)) e
 
   accepted_run : (m : Run N) (c : Call N) → refusal spelling m c ≡ None → step spelling m c ≡ accepted spelling m c
   accepted_run m c e = ap (λ o. unless_refused o (accepted spelling m c) (λ g. m)) e
 
   -- 4. calls: the gate, and what is left of the run's checks behind it
 
-  module _ {T : Type 0} (call : Call N) (ok : T → Answer) (gate late : Option PressFault) (p : Pressing N) (l : Memory N)
+  module _ {T : Type 0} (call : Call N) (ok : T → Outcome) (gate late : Option PressFault) (p : Pressing N) (l : Memory N)
       (tail : Run N → Option PressFault) (split : (m : Run N) → Kept spelling m p → refusal spelling m call ≡ or gate (tail m)) where
     pub by_gate : (f : PressFault) → gate ≡ Some f → Done spelling call ok gate late p l (Err f) p l
     by_gate f e = record {
@@ -131,7 +130,7 @@ module _ {N : Type 0} (spelling : N → List ℕ) where
       told = λ m k.
           let q : refusal spelling m call ≡ None = past e m k.kept ∙ (t m k).0 in
           let b = accepted_run m call q in (
-            (t m k).1 ∙ sym (accepted_answer m call q),
+            ap (λ y. Ok y) (t m k).1 ∙ sym (accepted_answer m call q),
             record {
               run = run_on m call s k.run;
               kept = subst (λ n. Kept spelling n p') (sym b) (t m k).2;

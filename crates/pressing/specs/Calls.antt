@@ -7,8 +7,8 @@ use Rattle.graph.specs.Mapping.{row_triples}
 use Rattle.ordering.specs.Queue.{Begun}
 use Rattle.runs.specs.declared.fault.PressFault.{PressFault}
 use Rattle.runs.specs.declared.fault.PressFault.TheVariants.{WrongStage, ShortList, TooManyNames, SpellingEntered, WaySize, NoName, VertexCount, Seed, Clash, Unfit, ShortString}
-use Rattle.runs.specs.declared.answer.Answer.{Answer}
-use Rattle.runs.specs.declared.answer.Answer.TheVariants as answered
+use Rattle.runs.specs.declared.answer.Outcome.{Outcome}
+use Rattle.runs.specs.declared.answer.Outcome.TheVariants as answered
 use Rattle.ways.specs.Permutation.{Meaning}
 use Rattle.leveling.specs.Level.{valued}
 use Rattle.runs.specs.Runs.{ample, Run, enter, map_to, order_by, fit, reopen, seal, sealed_string}
@@ -88,8 +88,8 @@ pub record FitWrote {N : Type 0} (n r v x : ℕ) (l l' : Memory N) : Type 0 wher
   pub ordered : l'.ordered ≡ l.ordered
   pub slots_past : drop n l'.slots ≡ drop n l.slots
 
--- the answer of a fit
-abbrev pub fitted : FitAnswer → Answer
+-- what a fit comes to
+abbrev pub fitted : FitAnswer → Outcome
 fitted x = answered.Fitted x.rotation x.tries
 
 module _ {N : Type 0} (spelling : N → List ℕ) where

@@ -7,8 +7,8 @@ use Rattle.graph.specs.Chains.{row, Graph}
 use Rattle.ordering.specs.Queue.{OrderedGraph}
 use Rattle.runs.specs.declared.stage.Stage.TheVariants.{Mapped, Ordered}
 use Rattle.runs.specs.declared.fault.PressFault.{PressFault}
-use Rattle.runs.specs.declared.answer.Answer.{Answer}
-use Rattle.runs.specs.declared.answer.Answer.TheVariants.{Refused}
+use Rattle.runs.specs.Answers.{Answer}
+use Rattle.runs.specs.declared.answer.Outcome.{Outcome}
 use Rattle.runs.specs.Runs.{ample, Call, Run, rank, count, graph as graph_of, vertex_order, earlier, step, reckoned, answer}
 use Rattle.runs.specs.Laws.{Sound}
 use Rattle.pressing.specs.declared.press.Pressing.{Pressing}
@@ -58,9 +58,9 @@ module _ {N : Type 0} (spelling : N → List ℕ) where
     pub held : ample (lent l) ≡ true → Held m l
 
 -- a result as the answer of a run
-abbrev pub as_answer : {T : Type 0} → (T → Answer) → Result T PressFault → Answer
-as_answer ok (Ok x) = ok x
-as_answer ok (Err f) = Refused f
+abbrev pub as_answer : {T : Type 0} → (T → Outcome) → Result T PressFault → Answer
+as_answer ok (Ok x) = Ok (ok x)
+as_answer ok (Err f) = Err f
 
 -- whatever the lists hold: the checks that the pressing decides alone refuse as they come,
 -- and past them only the one that the lists decide, if there is one
@@ -71,7 +71,7 @@ pub record Gated {T : Type 0} (gate late : Option PressFault) (r : Result T Pres
 -- what every call promises: for every run that left the pressing and the lists, the answer is the run's,
 -- and the run's next state left them then; and whatever the lists hold, what the gate says of refusals,
 -- that a refusal leaves the pressing as it was, and that every list keeps its length
-pub record Done {N T : Type 0} (spelling : N → List ℕ) (call : Call N) (ok : T → Answer) (gate late : Option PressFault) (p : Pressing N) (l : Memory N) (r : Result T PressFault) (p' : Pressing N) (l' : Memory N) : Type 0 where
+pub record Done {N T : Type 0} (spelling : N → List ℕ) (call : Call N) (ok : T → Outcome) (gate late : Option PressFault) (p : Pressing N) (l : Memory N) (r : Result T PressFault) (p' : Pressing N) (l' : Memory N) : Type 0 where
   pub told : (m : Run N) → Left spelling m p l → (as_answer ok r ≡ answer spelling m call) × Left spelling (step spelling m call) p' l'
   pub gated : Gated gate late r
   pub stays : is_err r ≡ true → p' ≡ p

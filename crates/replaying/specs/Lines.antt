@@ -1,7 +1,7 @@
 -- The lines of a session that are answered, and with what.
-use Rattle.std.specs.Prelude.{ℕ, cond, List, [], ◌∷◌, length, take, Option, Some, None, nat_le}
-use Rattle.runs.specs.declared.answer.Answer.{Answer}
-use Rattle.runs.specs.declared.answer.Answer.TheVariants as answer
+use Rattle.std.specs.Prelude.{ℕ, cond, List, [], ◌∷◌, length, take, Option, Some, None, Ok, Err, nat_le}
+use Rattle.runs.specs.Answers.{Answer}
+use Rattle.runs.specs.declared.answer.Outcome.TheVariants as answer
 use Rattle.replaying.specs.declared.reply.Reply.{Reply}
 use Rattle.replaying.specs.declared.reply.Reply.TheVariants as reply
 use Rattle.replaying.specs.declared.said.Said.{Said}
@@ -25,13 +25,13 @@ lines_of said.Unread = line.Unread ∷ []
 
 -- the length of the string that the last seal wrote, after one more answer
 abbrev pub sealed_after : Option ℕ → Answer → Option ℕ
-sealed_after o (answer.Sealed k) = Some k
-sealed_after o answer.Entered = o
-sealed_after o answer.Mapped = o
-sealed_after o (answer.Ordered k) = o
-sealed_after o (answer.Fitted v tries) = o
-sealed_after o answer.Reopened = o
-sealed_after o (answer.Refused f) = o
+sealed_after o (Ok (answer.Sealed k)) = Some k
+sealed_after o (Ok answer.Entered) = o
+sealed_after o (Ok answer.Mapped) = o
+sealed_after o (Ok (answer.Ordered k)) = o
+sealed_after o (Ok (answer.Fitted v tries)) = o
+sealed_after o (Ok answer.Reopened) = o
+sealed_after o (Err f) = o
 
 -- so many bytes of the memory, if it has them
 abbrev pub front : Option ℕ → List ℕ → Option (List ℕ)

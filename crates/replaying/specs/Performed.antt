@@ -1,7 +1,7 @@
 -- What a session's calls come to.
 use Rattle.std.specs.Prelude.{◌≡◌, ℕ, List, take}
 use Rattle.ways.specs.Permutation.{Meaning}
-use Rattle.runs.specs.declared.answer.Answer.{Answer}
+use Rattle.runs.specs.Answers.{Answer}
 use Rattle.runs.specs.declared.stage.Stage.TheVariants.{Sealed}
 use Rattle.runs.specs.Runs.{Lent, Run, beginning, answers, continued, string_length, sealed_string}
 use Rattle.scripts.specs.declared.script.Step.{Step}

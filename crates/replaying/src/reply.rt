@@ -1,4 +1,4 @@
-use runs::answer::Answer;
+use runs::answer::{Answer, Outcome};
 use runs::fault::PressFault;
 use std::fmt;
 
@@ -16,20 +16,17 @@ pub enum Reply {
 impl fmt::Display for Reply {
     fn fmt<W: fmt::Write>(&self, f: &mut fmt::Formatter<W>) -> fmt::Result {
         match *self {
-            Reply::Called(Answer::Entered) => write!(f, "entered"),
-            Reply::Called(Answer::Mapped) => write!(f, "mapped"),
-            Reply::Called(Answer::Ordered(count)) => write!(f, "ordered {count}"),
-            Reply::Called(Answer::Fitted(rotation, tries)) => write!(
+            Reply::Called(Ok(Outcome::Entered)) => write!(f, "entered"),
+            Reply::Called(Ok(Outcome::Mapped)) => write!(f, "mapped"),
+            Reply::Called(Ok(Outcome::Ordered(count))) => write!(f, "ordered {count}"),
+            Reply::Called(Ok(Outcome::Fitted(rotation, tries))) => write!(
                 f,
                 "fitted {rotation} {tries}"
             ),
-            Reply::Called(Answer::Reopened) => write!(f, "reopened"),
-            Reply::Called(Answer::Sealed(len)) => write!(f, "sealed {len}"),
-            Reply::Called(Answer::Refused(PressFault::Unfit(level))) => write!(
-                f,
-                "refused 19 {level}"
-            ),
-            Reply::Called(Answer::Refused(fault)) => {
+            Reply::Called(Ok(Outcome::Reopened)) => write!(f, "reopened"),
+            Reply::Called(Ok(Outcome::Sealed(len))) => write!(f, "sealed {len}"),
+            Reply::Called(Err(PressFault::Unfit(level))) => write!(f, "refused 19 {level}"),
+            Reply::Called(Err(fault)) => {
                 let number = fault.number();
                 write!(f, "refused {number}")
             }

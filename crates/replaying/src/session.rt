@@ -11,7 +11,7 @@ use mixed_ways::kept::KeptList;
 use mixed_ways::mixed::Mixed;
 use names::kind::Kind;
 use pressing::press::Pressing;
-use runs::answer::Answer;
+use runs::answer::{Answer, Outcome};
 use scripts::replaying::replay;
 use scripts::script::{Call, Step};
 use std::alloc::{AllocError, Global};
@@ -117,7 +117,7 @@ impl<N: Typed> Session<N> {
         ensures sealed { IfOk result (λ r. HoldsItsString N.spelling N.number (run_end N.spelling ⟦<Mixed<StrideWay, KeptList> as Way>⟧.meaning 26645 self.now.script.items) r.string.items) }
     {
         let mut lists = WorkLists::new(heap, name)?;
-        let mut answers = filled(heap, Answer::Reopened, self.script.len())?;
+        let mut answers = filled(heap, Ok(Outcome::Reopened), self.script.len())?;
         let mut string = filled(heap, 0xA5, LONGEST_STRING)?;
         perform(&self.script, &mut lists, &mut string, &mut answers);
         Ok(Replayed { answers, string })
@@ -129,7 +129,7 @@ fn sealed_after(sealed: Option<usize>, answer: Answer) -> Option<usize>
     ensures { result ≡ after sealed answer }
 {
     match answer {
-        Answer::Sealed(len) => Some(len),
+        Ok(Outcome::Sealed(len)) => Some(len),
         _ => sealed,
     }
 }

@@ -5,7 +5,7 @@ use names::cell::DayCell;
 use names::fault::NameFault;
 use names::kind::Kind;
 use names::point::PointName;
-use runs::answer::Answer;
+use runs::answer::{Answer, Outcome};
 use std::alloc::{AllocError, Global};
 use std::str::Lines;
 use typing::numbers::number;
@@ -35,7 +35,7 @@ fn replies(
 ) -> Result<(), AllocError> {
     let mut made: usize = 0;
     for line in lines {
-        let answer = answers.get(made).copied().unwrap_or(Answer::Reopened);
+        let answer = answers.get(made).copied().unwrap_or(Ok(Outcome::Reopened));
         append(out, line_of(heap, line.reply(answer)))?;
         if let Line::Call = *line {
             made = made.saturating_add(1);

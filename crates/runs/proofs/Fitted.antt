@@ -1,11 +1,12 @@
 -- What a fit answers: unfit exactly if every rotation is blocked, else the first that fits.
-use Rattle.std.proofs.Common.{◌≡◌, ℕ, ◌-◌, ◌%◌, ◌<◌, ◌↔◌, List, Some, None, Option, sym, refl, ap, ◌∙◌, mod-lt, mod-eq_of_lt, arith}
+use Rattle.std.proofs.Common.{◌≡◌, ℕ, ◌-◌, ◌%◌, ◌<◌, ◌↔◌, List, Some, None, Ok, Err, Option, sym, refl, ap, ◌∙◌, mod-lt, mod-eq_of_lt, arith}
 use Rattle.std.proofs.lemmas.Bool.{eq-eqb, both_ways}
 use Rattle.ways.specs.Permutation.{Meaning, asked, Permutes}
 use Rattle.runs.specs.declared.fault.PressFault.{PressFault}
 use Rattle.runs.specs.declared.fault.PressFault.TheVariants.{WrongStage, ShortList, TooManyNames, SpellingEntered, WaySize, NoName, VertexCount, Seed, Clash, Unfit, ShortString}
-use Rattle.runs.specs.declared.answer.Answer.{Answer}
-use Rattle.runs.specs.declared.answer.Answer.TheVariants as answered
+use Rattle.runs.specs.Answers.{Answer}
+use Rattle.runs.specs.declared.answer.Outcome.{Outcome}
+use Rattle.runs.specs.declared.answer.Outcome.TheVariants as answered
 use Rattle.runs.specs.Faults.{carried}
 use Rattle.runs.specs.Fitting.{free}
 use Rattle.runs.specs.Runs.{Run, Call, fit, Lent, count, level_offsets, level_slots, fit_found, refusal, with_level, accepted, unless_refused, step, fit_answer, answer_accepted, answer}
@@ -29,13 +30,12 @@ carries_level ShortString l e = absurd (let z : ◌≡◌ {A = ℕ} 0 1 = cc in 
 
 module _ {N : Type 0} (spelling : N → List ℕ) where
   -- an answer that is no refusal is that of an accepted call
-  pub was_accepted : (m : Run N) (c : Call N) (a : Answer) → ((f : PressFault) → answered.Refused f ≡ a → ⊥) → answer spelling m c ≡ a →
-      (refusal spelling m c ≡ None) × (answer_accepted spelling m c ≡ a)
-  was_accepted m c a other = go (refusal spelling m c)
+  pub was_accepted : (m : Run N) (c : Call N) (x : Outcome) → answer spelling m c ≡ Ok x → (refusal spelling m c ≡ None) × (answer_accepted spelling m c ≡ x)
+  was_accepted m c x = go (refusal spelling m c)
     where
-      go : (o : Option PressFault) → unless_refused o (answer_accepted spelling m c) (λ f. answered.Refused f) ≡ a → (o ≡ None) × (answer_accepted spelling m c ≡ a)
-      go None e = (refl, e)
-      go (Some f) e = absurd (other f e)
+      go : (o : Option PressFault) → unless_refused o (Ok (answer_accepted spelling m c)) (λ f. Err f) ≡ Ok x → (o ≡ None) × (answer_accepted spelling m c ≡ x)
+      go None e = (refl, cc)
+      go (Some f) e = absurd (let z : ◌≡◌ {A = ℕ} 0 1 = cc in omega arith)
 
   pub record Answered (m : Run N) (l : Lent) (w : Meaning) (v tries : ℕ) : Type 0 where
     pub accepts : refusal spelling m (fit l w) ≡ None
@@ -45,9 +45,9 @@ module _ {N : Type 0} (spelling : N → List ℕ) where
   found_answer : (v t x u : ℕ) → answered.Fitted v t ≡ answered.Fitted x u → (v ≡ x) × (t ≡ u)
   found_answer v t x u e = (cc, cc)
 
-  pub fit_answered : (m : Run N) (l : Lent) (w : Meaning) (v tries : ℕ) → answer spelling m (fit l w) ≡ answered.Fitted v tries → Answered m l w v tries
+  pub fit_answered : (m : Run N) (l : Lent) (w : Meaning) (v tries : ℕ) → answer spelling m (fit l w) ≡ Ok (answered.Fitted v tries) → Answered m l w v tries
   fit_answered m l w v tries e =
-      let p = was_accepted m (fit l w) (answered.Fitted v tries) (λ f q. let z : ◌≡◌ {A = ℕ} 0 1 = cc in omega arith) e in
+      let p = was_accepted m (fit l w) (answered.Fitted v tries) e in
       let f = fit_passed spelling m l w p.0 in
       let q = found_answer f.value f.tries v tries (sym (ap fit_answer f.is_found) ∙ p.1) in
       let a = q.0 in
@@ -59,7 +59,7 @@ module _ {N : Type 0} (spelling : N → List ℕ) where
         stepped = ap (λ o. unless_refused o (accepted spelling m (fit l w)) (λ x. m)) p.0 ∙ ap (with_level spelling m) found;
       }
 
-  pub fit_is_first : (m : Run N) (l : Lent) (w : Meaning) (v tries : ℕ) → answer spelling m (fit l w) ≡ answered.Fitted v tries → FirstThatFits spelling m w v tries
+  pub fit_is_first : (m : Run N) (l : Lent) (w : Meaning) (v tries : ℕ) → answer spelling m (fit l w) ≡ Ok (answered.Fitted v tries) → FirstThatFits spelling m w v tries
   fit_is_first m l w v tries e =
       let q = found_step spelling m w (v, tries) (fit_answered m l w v tries e).is_found in
       let back : tries - 1 ≡ q.step = omega (arith, q.tries) in
@@ -73,8 +73,8 @@ module _ {N : Type 0} (spelling : N → List ℕ) where
 
   module _ (m : Run N) (l : Lent) (w : Meaning) (law : Permutes w) (turn : InTurn spelling m l w) where
     abbrev outcome : Option (ℕ × ℕ) → Answer
-    outcome None = answered.Refused (Unfit m.level)
-    outcome (Some (v, tries)) = answered.Fitted v tries
+    outcome None = Err (Unfit m.level)
+    outcome (Some (v, tries)) = Ok (answered.Fitted v tries)
 
     in_turn : (o : Option (ℕ × ℕ)) → fit_found spelling m w ≡ o → answer spelling m (fit l w) ≡ outcome o
     in_turn None e = simp (turn.ordered, turn.long, eq-eqb w.size (count m) turn.sized, e)
@@ -92,11 +92,11 @@ module _ {N : Type 0} (spelling : N → List ℕ) where
         rw (← p.2) ((blocked_exactly m.filled (level_slots spelling m (asked w m.level p.0))).0
         (first_none (count m) (asked w m.level) m.filled (level_offsets spelling m) (count m) 0 e p.0 (omega arith) (omega (arith, p.1))))
 
-    unfit_blocked : (o : Option (ℕ × ℕ)) → fit_found spelling m w ≡ o → outcome o ≡ answered.Refused (Unfit m.level) → EveryRotationBlocked spelling m
+    unfit_blocked : (o : Option (ℕ × ℕ)) → fit_found spelling m w ≡ o → outcome o ≡ Err (Unfit m.level) → EveryRotationBlocked spelling m
     unfit_blocked None e h = none_fits e
     unfit_blocked (Some (v, tries)) e h = absurd (let z : ◌≡◌ {A = ℕ} 0 1 = cc in omega arith)
 
-    blocked_unfit : EveryRotationBlocked spelling m → (o : Option (ℕ × ℕ)) → fit_found spelling m w ≡ o → outcome o ≡ answered.Refused (Unfit m.level)
+    blocked_unfit : EveryRotationBlocked spelling m → (o : Option (ℕ × ℕ)) → fit_found spelling m w ≡ o → outcome o ≡ Err (Unfit m.level)
     blocked_unfit h None e = refl
     blocked_unfit h (Some (v, tries)) e =
         let q = found_step spelling m w (v, tries) e in
@@ -106,7 +106,7 @@ module _ {N : Type 0} (spelling : N → List ℕ) where
     pub unfit_exactly : Refuses (answer spelling m (fit l w)) 19 (Some m.level) ↔ EveryRotationBlocked spelling m
     unfit_exactly = (
       λ r. unfit_blocked (fit_found spelling m w) refl
-          (sym (in_turn (fit_found spelling m w) refl) ∙ r.refused ∙ ap (λ f. answered.Refused f) (carries_level r.fault m.level r.carrying)),
+          (sym (in_turn (fit_found spelling m w) refl) ∙ r.refused ∙ ap (λ f. Err f) (carries_level r.fault m.level r.carrying)),
       λ h. record {
         fault = Unfit m.level;
         refused = in_turn (fit_found spelling m w) refl ∙ blocked_unfit h (fit_found spelling m w) refl;

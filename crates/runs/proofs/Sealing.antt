@@ -1,12 +1,12 @@
 -- An accepted seal has a lawful plate that holds the names entered, and its string has the length answered.
-use Rattle.std.proofs.Common.{◌≡◌, ℕ, suc, ◌+◌, ◌-◌, ◌*◌, ◌<◌, ◌≤◌, List, [], ◌∷◌, map, length, get_or, replicate, refl, ap, ◌∙◌, mod-lt, arith}
+use Rattle.std.proofs.Common.{◌≡◌, ℕ, suc, ◌+◌, ◌-◌, ◌*◌, ◌<◌, ◌≤◌, List, [], ◌∷◌, map, length, get_or, Ok, replicate, refl, ap, ◌∙◌, mod-lt, arith}
 use Rattle.std.specs.List.{AllByRecursion}
 use Rattle.std.proofs.lemmas.List.{length-map, length-append, length-replicate, take_all}
 use Rattle.std.proofs.ByRecursion.{All-get_or}
 use Rattle.hashing.specs.Generator.{tables}
 use Rattle.hashing.specs.Triples.{triple}
 use Rattle.runs.specs.declared.stage.Stage.TheVariants.{Fitted}
-use Rattle.runs.specs.declared.answer.Answer.TheVariants as answered
+use Rattle.runs.specs.declared.answer.Outcome.TheVariants as answered
 use Rattle.runs.specs.Fitting.{slot}
 use Rattle.runs.specs.Plates.{Entry, Plate, Lawful, slot_of, two, concat, record_field, plate_string}
 use Rattle.runs.specs.Runs.{Run, seal, Lent, count, graph, vertex_order, string_length, answer, entry_of, entered, run_slot, pressed, sealed_string}
@@ -133,10 +133,10 @@ module _ {N : Type 0} (spelling : N → List ℕ) where
   seal_length : (a b : ℕ) → answered.Sealed a ≡ answered.Sealed b → a ≡ b
   seal_length a b e = cc
 
-  pub seals_soundly : (m : Run N) → Stands spelling m → (l : Lent) (room k : ℕ) → answer spelling m (seal l room) ≡ answered.Sealed k →
+  pub seals_soundly : (m : Run N) → Stands spelling m → (l : Lent) (room k : ℕ) → answer spelling m (seal l room) ≡ Ok (answered.Sealed k) →
       PlateOf spelling m (pressed spelling m) × (k ≤ room) × (((x : N) → length (spelling x) ≤ 16) → (kind : ℕ) → length (sealed_string spelling kind m) ≡ k)
   seals_soundly m h l room k e =
-      let p = was_accepted spelling m (seal l room) (answered.Sealed k) (λ f q. let z : ◌≡◌ {A = ℕ} 0 1 = cc in omega arith) e in
+      let p = was_accepted spelling m (seal l room) (answered.Sealed k) e in
       let q = seal_passed spelling m l room p.0 in
       let a = at spelling m Fitted h q.0 in
       let is = seal_length (string_length m) k p.1 in

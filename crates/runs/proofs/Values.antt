@@ -1,5 +1,5 @@
 -- Values of fitted vertices: they stay until the next accepted order, and each was answered by a fit.
-use Rattle.std.proofs.Common.{◌≡◌, ℕ, ◌*◌, ◌<◌, ◌≤◌, List, [], ◌∷◌, ◌++◌, length, get_or, Some, None, Option, sym, refl, ap, ◌∙◌, subst, inl, inr, append_assoc, arith}
+use Rattle.std.proofs.Common.{◌≡◌, ℕ, ◌*◌, ◌<◌, ◌≤◌, List, [], ◌∷◌, ◌++◌, length, get_or, Some, None, Ok, Err, Option, sym, refl, ap, ◌∙◌, subst, inl, inr, append_assoc, arith}
 use Rattle.std.specs.List.{AllByRecursion}
 use Rattle.std.proofs.lemmas.Bool.{cases_eq}
 use Rattle.std.proofs.lemmas.List.{get_or-set_same, get_or-set_other, append-nil}
@@ -8,7 +8,7 @@ use Rattle.ways.specs.Permutation.{Meaning, Permutes}
 use Rattle.runs.specs.declared.stage.Stage.{Stage}
 use Rattle.runs.specs.declared.stage.Stage.TheVariants.{Open, Mapped, Ordered, Sealed}
 use Rattle.runs.specs.declared.fault.PressFault.{PressFault}
-use Rattle.runs.specs.declared.answer.Answer.TheVariants as answered
+use Rattle.runs.specs.declared.answer.Outcome.TheVariants as answered
 use Rattle.runs.specs.Runs.{Run, Call, enter, map_to, order_by, fit, reopen, seal, Lent, rank, graph, vertex_order, vertex, refusal, with_level, accepted, unless_refused, step, continued, reckoned, answer_accepted, fit_answer, answer}
 use Rattle.runs.specs.Laws.{Sound, NoOrder, WasFitted}
 use Rattle.runs.proofs.Ordering.{order_lined}
@@ -23,8 +23,8 @@ module _ {N : Type 0} (spelling : N → List ℕ) where
   abbrev value_at : Run N → ℕ → ℕ
   value_at m u = get_or m.values u 0
 
-  answer_when : (m : Run N) (c : Call N) (o : Option PressFault) → refusal spelling m c ≡ o → answer spelling m c ≡ unless_refused o (answer_accepted spelling m c) (λ f. answered.Refused f)
-  answer_when m c o e = ap (λ p. unless_refused p (answer_accepted spelling m c) (λ f. answered.Refused f)) e
+  answer_when : (m : Run N) (c : Call N) (o : Option PressFault) → refusal spelling m c ≡ o → answer spelling m c ≡ unless_refused o (Ok (answer_accepted spelling m c)) (λ f. Err f)
+  answer_when m c o e = ap (λ p. unless_refused p (Ok (answer_accepted spelling m c)) (λ f. Err f)) e
 
   -- fitting the next level gives its vertex the value, and no other
   module _ (m : Run N) (g : AtStage spelling Ordered m) (x t : ℕ) where
@@ -52,7 +52,7 @@ module _ {N : Type 0} (spelling : N → List ℕ) where
           going = λ e. (p.0, omega (arith, p.1));
         }
 
-    keeps_accepted : (m : Run N) (c : Call N) → Stands spelling m → ((k : ℕ) → answer spelling m c ≡ answered.Ordered k → ⊥) → Keeps vs i v m → refusal spelling m c ≡ None → Keeps vs i v (accepted spelling m c)
+    keeps_accepted : (m : Run N) (c : Call N) → Stands spelling m → ((k : ℕ) → answer spelling m c ≡ Ok (answered.Ordered k) → ⊥) → Keeps vs i v m → refusal spelling m c ≡ None → Keeps vs i v (accepted spelling m c)
     keeps_accepted m (enter l x s) h new k ok = record { has_value = k.has_value; going = λ e. absurd (stages_differ Open Ordered (λ q. omega arith) e) }
     keeps_accepted m (map_to l r seed) h new k ok = record { has_value = k.has_value; going = λ e. absurd (stages_differ Mapped Ordered (λ q. omega arith) e) }
     keeps_accepted m (order_by l) h new k ok = absurd (new (length (vertex_order spelling m)) (answer_when m (order_by l) None ok))
@@ -69,7 +69,7 @@ module _ {N : Type 0} (spelling : N → List ℕ) where
         (after_call spelling (Keeps vs i v) m c (λ f e. k) (keeps_accepted m c h new.0 k))
 
   pub value_stays : (m : Run N) → Stands spelling m → (l : Lent) (w : Meaning) (v tries : ℕ) (after : List (Call N)) → Permutes w → AllByRecursion Sound after →
-      answer spelling m (fit l w) ≡ answered.Fitted v tries → NoOrder spelling (step spelling m (fit l w)) after →
+      answer spelling m (fit l w) ≡ Ok (answered.Fitted v tries) → NoOrder spelling (step spelling m (fit l w)) after →
       get_or (continued spelling (step spelling m (fit l w)) after).values (vertex spelling m) 0 ≡ v
   value_stays m h l w v tries after law sound e new =
       let a = fit_answered spelling m l w v tries e in
@@ -84,7 +84,7 @@ module _ {N : Type 0} (spelling : N → List ℕ) where
   continued_append m [] ds = refl
   continued_append m (c ∷ cs) ds = continued_append (step spelling m c) cs ds
 
-  no_order_push : (m : Run N) (cs : List (Call N)) (c : Call N) → NoOrder spelling m cs → ((k : ℕ) → answer spelling (continued spelling m cs) c ≡ answered.Ordered k → ⊥) → NoOrder spelling m (cs ++ c ∷ [])
+  no_order_push : (m : Run N) (cs : List (Call N)) (c : Call N) → NoOrder spelling m cs → ((k : ℕ) → answer spelling (continued spelling m cs) c ≡ Ok (answered.Ordered k) → ⊥) → NoOrder spelling m (cs ++ c ∷ [])
   no_order_push m [] c h new = (new, tt)
   no_order_push m (d ∷ cs) c h new = (h.0, no_order_push (step spelling m d) cs c h.1 new)
 
@@ -96,7 +96,7 @@ module _ {N : Type 0} (spelling : N → List ℕ) where
     now = reckoned spelling calls
 
     -- a fit before c was one before the calls with c too
-    later : (m : Run N) (i : ℕ) → ((k : ℕ) → answer spelling now c ≡ answered.Ordered k → ⊥) → vertex_order spelling now ≡ vertex_order spelling m →
+    later : (m : Run N) (i : ℕ) → ((k : ℕ) → answer spelling now c ≡ Ok (answered.Ordered k) → ⊥) → vertex_order spelling now ≡ vertex_order spelling m →
         value_at now (get_or (vertex_order spelling now) i 0) ≡ value_at m (get_or (vertex_order spelling m) i 0) → WasFitted spelling calls now i → WasFitted spelling (calls ++ c ∷ []) m i
     later m i new same_vs same_value h = record {
       before = h.before;
@@ -105,7 +105,7 @@ module _ {N : Type 0} (spelling : N → List ℕ) where
       after = h.after ++ c ∷ [];
       split = ap (λ cs. cs ++ c ∷ []) h.split ∙ append_assoc h.before (fit h.lent h.way ∷ h.after) (c ∷ []);
       tries = h.tries;
-      answers = h.answers ∙ ap (λ v. answered.Fitted v h.tries) same_value;
+      answers = h.answers ∙ ap (λ v. Ok (answered.Fitted v h.tries)) same_value;
       at_level = h.at_level;
       same_order = h.same_order ∙ same_vs;
       since = no_order_push (step spelling (reckoned spelling h.before) (fit h.lent h.way)) h.after c h.since
@@ -123,7 +123,7 @@ module _ {N : Type 0} (spelling : N → List ℕ) where
         after = [];
         split = refl;
         tries = p.tries;
-        answers = is_answer ∙ ap (λ v. answered.Fitted v p.tries) (sym (ap (λ j. value_at (with_level spelling m (Some (p.value, p.tries))) (get_or (vertex_order spelling m) j 0)) e ∙ new_value m g p.value p.tries));
+        answers = is_answer ∙ ap (λ v. Ok (answered.Fitted v p.tries)) (sym (ap (λ j. value_at (with_level spelling m (Some (p.value, p.tries))) (get_or (vertex_order spelling m) j 0)) e ∙ new_value m g p.value p.tries));
         at_level = sym e;
         same_order = refl;
         since = tt;
@@ -140,8 +140,8 @@ module _ {N : Type 0} (spelling : N → List ℕ) where
         g : AtStage spelling Ordered m
         g = at spelling m Ordered h p.stage
 
-        is_answer : answer spelling m (fit l w) ≡ answered.Fitted p.value p.tries
-        is_answer = answer_when m (fit l w) None ok ∙ ap fit_answer p.is_found
+        is_answer : answer spelling m (fit l w) ≡ Ok (answered.Fitted p.value p.tries)
+        is_answer = answer_when m (fit l w) None ok ∙ ap (λ o. Ok (fit_answer o)) p.is_found
 
     fitted_accepted : (c : Call N) → refusal spelling (reckoned spelling calls) c ≡ None → AllFitted (calls ++ c ∷ []) (accepted spelling (reckoned spelling calls) c)
     fitted_accepted (enter l x s) ok high i b = absurd (omega arith)

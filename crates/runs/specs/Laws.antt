@@ -1,12 +1,12 @@
 -- What holds of every run of calls to one pressing, for every kind of name N and every spelling of its names.
-use Rattle.std.specs.Prelude.{◌≡◌, ℕ, ◌-◌, ◌<◌, ◌≤◌, Bool, true, false, cond, ◌↔◌, List, [], ◌∷◌, ◌++◌, map, length, Some, Option, ◌≢◌, slice_index, slice_index_or, slice_set}
+use Rattle.std.specs.Prelude.{◌≡◌, ℕ, ◌-◌, ◌<◌, ◌≤◌, Bool, true, false, cond, ◌↔◌, List, [], ◌∷◌, ◌++◌, map, length, is_err, Some, Ok, Err, Option, ◌≢◌, slice_index, slice_index_or, slice_set}
 use Rattle.std.specs.List.{AllByRecursion}
 use Rattle.hashing.specs.Triples.{Triple}
 use Rattle.ways.specs.Permutation.{Meaning, asked, Permutes}
 use Rattle.runs.specs.declared.stage.Stage.TheVariants.{Mapped, Ordered, Fitted}
 use Rattle.runs.specs.declared.fault.PressFault.{PressFault}
-use Rattle.runs.specs.declared.answer.Answer.{Answer}
-use Rattle.runs.specs.declared.answer.Answer.TheVariants as answered
+use Rattle.runs.specs.Answers.{Answer}
+use Rattle.runs.specs.declared.answer.Outcome.TheVariants as answered
 use Rattle.runs.specs.Faults.{number, carried}
 use Rattle.runs.specs.Lists.{among, Distinct}
 use Rattle.runs.specs.Order.{OrderOf, order}
@@ -34,18 +34,9 @@ OfEveryRun N P = (spelling : N → List ℕ) (calls : List (Call N)) → AllByRe
 -- a refused call changes nothing
 abbrev pub RefusalChangesNothing : Type 0 → Type 0
 RefusalChangesNothing N = OfEveryRun N (λ spelling m.
-    (c : Call N) (f : PressFault) → answer spelling m c ≡ answered.Refused f → step spelling m c ≡ m)
+    (c : Call N) (f : PressFault) → answer spelling m c ≡ Err f → step spelling m c ≡ m)
 
 -- the names of a run are those of the enters that were not refused, in their order
-abbrev pub is_refusal : Answer → Bool
-is_refusal answered.Entered = false
-is_refusal answered.Mapped = false
-is_refusal (answered.Ordered k) = false
-is_refusal (answered.Fitted v tries) = false
-is_refusal answered.Reopened = false
-is_refusal (answered.Sealed k) = false
-is_refusal (answered.Refused f) = true
-
 abbrev pub named : {N : Type 0} → Call N → List (N × ℕ)
 named (enter l x v) = (x, v) ∷ []
 named (map_to l r seed) = []
@@ -57,7 +48,7 @@ named (seal l room) = []
 abbrev pub entered_by : {N : Type 0} → List (Call N) → List Answer → List (N × ℕ)
 entered_by [] more = []
 entered_by (c ∷ cs) [] = []
-entered_by (c ∷ cs) (a ∷ more) = cond (is_refusal a) [] (named c) ++ entered_by cs more
+entered_by (c ∷ cs) (a ∷ more) = cond (is_err a) [] (named c) ++ entered_by cs more
 
 abbrev pub NamesWereEntered : Type 0 → Type 0
 NamesWereEntered N =
@@ -82,7 +73,7 @@ NoTripleTwice N = OfEveryRun N (λ spelling m. rank Mapped ≤ rank m.stage → 
 -- an answer refuses with this number, and carries this
 pub record Refuses (a : Answer) (n : ℕ) (carries : Option ℕ) : Type 0 where
   pub fault : PressFault
-  pub refused : a ≡ answered.Refused fault
+  pub refused : a ≡ Err fault
   pub numbered : number fault ≡ n
   pub carrying : carried fault ≡ carries
 
@@ -108,7 +99,7 @@ module _ {N : Type 0} (spelling : N → List ℕ) where
   -- no call of a list is an accepted order
   abbrev pub NoOrder : Run N → List (Call N) → Type 0
   NoOrder m [] = Unit {0}
-  NoOrder m (c ∷ cs) = ((k : ℕ) → answer spelling m c ≢ answered.Ordered k) × NoOrder (step spelling m c) cs
+  NoOrder m (c ∷ cs) = ((k : ℕ) → answer spelling m c ≢ Ok (answered.Ordered k)) × NoOrder (step spelling m c) cs
 
   -- the vertex fitted at the level i has the value that a fit among the calls answered, and no order was accepted since
   pub record WasFitted (calls : List (Call N)) (m : Run N) (i : ℕ) : Type 0 where
@@ -118,7 +109,7 @@ module _ {N : Type 0} (spelling : N → List ℕ) where
     pub after : List (Call N)
     pub split : calls ≡ before ++ fit lent way ∷ after
     pub tries : ℕ
-    pub answers : answer spelling (reckoned spelling before) (fit lent way) ≡ answered.Fitted (slice_index m.values (slice_index (vertex_order spelling m) i)) tries
+    pub answers : answer spelling (reckoned spelling before) (fit lent way) ≡ Ok (answered.Fitted (slice_index m.values (slice_index (vertex_order spelling m) i)) tries)
     pub at_level : (reckoned spelling before).level ≡ i
     pub same_order : vertex_order spelling (reckoned spelling before) ≡ vertex_order spelling m
     pub since : NoOrder (step spelling (reckoned spelling before) (fit lent way)) after
@@ -170,13 +161,13 @@ RotationGivesSlots N = OfEveryRun N (λ spelling m.
 -- an accepted fit answers the first rotation that fits, with its tries
 abbrev pub FitIsFirst : Type 0 → Type 0
 FitIsFirst N = OfEveryRun N (λ spelling m.
-    (l : Lent) (w : Meaning) (v tries : ℕ) → answer spelling m (fit l w) ≡ answered.Fitted v tries → FirstThatFits spelling m w v tries)
+    (l : Lent) (w : Meaning) (v tries : ℕ) → answer spelling m (fit l w) ≡ Ok (answered.Fitted v tries) → FirstThatFits spelling m w v tries)
 
 -- and the vertex has that value until the next accepted order
 abbrev pub ValueStays : Type 0 → Type 0
 ValueStays N = OfEveryRun N (λ spelling m.
     (l : Lent) (w : Meaning) (v tries : ℕ) (after : List (Call N)) → Permutes w → AllByRecursion Sound after →
-    answer spelling m (fit l w) ≡ answered.Fitted v tries → NoOrder spelling (step spelling m (fit l w)) after →
+    answer spelling m (fit l w) ≡ Ok (answered.Fitted v tries) → NoOrder spelling (step spelling m (fit l w)) after →
     slice_index (continued spelling (step spelling m (fit l w)) after).values (vertex spelling m) ≡ v)
 
 -- every value of a fitted vertex came about so
@@ -201,7 +192,7 @@ FittedExactly N = OfEveryRun N (λ spelling m. LevelsLeft spelling m)
 -- an accepted seal's plate is that of the run, and it answers the length of the plate's string, for which there is room
 abbrev pub SealsSoundly : Type 0 → Type 0
 SealsSoundly N = OfEveryRun N (λ spelling m.
-    (l : Lent) (room k : ℕ) → answer spelling m (seal l room) ≡ answered.Sealed k →
+    (l : Lent) (room k : ℕ) → answer spelling m (seal l room) ≡ Ok (answered.Sealed k) →
     PlateOf spelling m (pressed spelling m) × (k ≤ room) ×
     (((x : N) → length (spelling x) ≤ 16) → (kind : ℕ) → length (sealed_string spelling kind m) ≡ k))
 

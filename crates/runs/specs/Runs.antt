@@ -1,6 +1,6 @@
 -- A run: what a list of calls to one pressing comes to, reckoned from the calls' arguments alone.
 -- A pressing makes one plate of names of one kind, of which a run knows the spellings.
-use Rattle.std.specs.Prelude.{ℕ, suc, ◌+◌, ◌*◌, Bool, true, false, cond, not, ◌&&◌, List, [], ◌∷◌, ◌++◌, map, length, take, replicate, Some, None, Option, ◌==◌, nat_le, nat_lt, slice_index, slice_set}
+use Rattle.std.specs.Prelude.{ℕ, suc, ◌+◌, ◌*◌, Bool, true, false, cond, not, ◌&&◌, List, [], ◌∷◌, ◌++◌, map, length, take, replicate, Some, None, Ok, Err, Option, ◌==◌, nat_le, nat_lt, slice_index, slice_set}
 use Rattle.refusals.specs.Checks.{unless, first}
 use Rattle.hashing.specs.Generator.{tables}
 use Rattle.hashing.specs.Triples.{Triple, triple}
@@ -9,8 +9,9 @@ use Rattle.runs.specs.declared.stage.Stage.{Stage}
 use Rattle.runs.specs.declared.stage.Stage.TheVariants.{Open, Mapped, Ordered, Fitted, Sealed}
 use Rattle.runs.specs.declared.fault.PressFault.{PressFault}
 use Rattle.runs.specs.declared.fault.PressFault.TheVariants.{WrongStage, ShortList, TooManyNames, SpellingEntered, WaySize, NoName, VertexCount, Seed, Clash, Unfit, ShortString}
-use Rattle.runs.specs.declared.answer.Answer.{Answer}
-use Rattle.runs.specs.declared.answer.Answer.TheVariants as answered
+use Rattle.runs.specs.Answers.{Answer}
+use Rattle.runs.specs.declared.answer.Outcome.{Outcome}
+use Rattle.runs.specs.declared.answer.Outcome.TheVariants as answered
 use Rattle.std.specs.Str.{bytes_eq}
 use Rattle.runs.specs.Lists.{has, repeats}
 use Rattle.runs.specs.Order.{order}
@@ -77,7 +78,7 @@ unless_refused None x y = x
 unless_refused (Some f) x y = y f
 
 -- what a fit that found a rotation answers; one that found none is refused before
-abbrev pub fit_answer : Option (ℕ × ℕ) → Answer
+abbrev pub fit_answer : Option (ℕ × ℕ) → Outcome
 fit_answer None = answered.Fitted 0 0
 fit_answer (Some (v, tries)) = answered.Fitted v tries
 
@@ -213,7 +214,7 @@ module _ {N : Type 0} (spelling : N → List ℕ) where
   reckoned cs = continued beginning cs
 
   -- What the calls answer.
-  abbrev pub answer_accepted : Run N → Call N → Answer
+  abbrev pub answer_accepted : Run N → Call N → Outcome
   answer_accepted m (enter l x v) = answered.Entered
   answer_accepted m (map_to l r seed) = answered.Mapped
   answer_accepted m (order_by l) = answered.Ordered (length (vertex_order m))
@@ -222,7 +223,7 @@ module _ {N : Type 0} (spelling : N → List ℕ) where
   answer_accepted m (seal l room) = answered.Sealed (string_length m)
 
   abbrev pub answer : Run N → Call N → Answer
-  answer m c = unless_refused (refusal m c) (answer_accepted m c) (λ f. answered.Refused f)
+  answer m c = unless_refused (refusal m c) (Ok (answer_accepted m c)) (λ f. Err f)
 
   abbrev pub answers : Run N → List (Call N) → List Answer
   answers m [] = []

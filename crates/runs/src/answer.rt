@@ -1,8 +1,8 @@
 use crate::fault::PressFault;
 
-/// What a call to a pressing answers.
+/// What an accepted call to a pressing comes to.
 #[derive(Clone, Copy)]
-pub enum Answer {
+pub enum Outcome {
     Entered,
     Mapped,
     /// The number of ordered vertices.
@@ -12,5 +12,7 @@ pub enum Answer {
     Reopened,
     /// The length of the plate string.
     Sealed(usize),
-    Refused(PressFault),
 }
+
+/// What a call to a pressing answers: what it came to, or why it is refused.
+pub type Answer = Result<Outcome, PressFault>;

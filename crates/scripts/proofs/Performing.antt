@@ -1,11 +1,12 @@
 -- One call of a script, from what the call itself promises. Assumes nothing.
-use Rattle.std.proofs.Common.{◌≡◌, ℕ, Bool, true, false, ◌&&◌, eqb, ltb, leb, List, [], ◌∷◌, length, is_err, Some, Ok, Err, Option, Result, sym, refl, ap, ◌∙◌, subst, arith, MatchResult}
+use Rattle.std.proofs.Common.{◌≡◌, ℕ, Bool, true, false, ◌&&◌, eqb, ltb, leb, List, [], ◌∷◌, length, is_err, Some, Ok, Err, Option, Result, sym, refl, ap, ◌∙◌, subst, arith, MatchResult, IsOkAnd}
 use Rattle.refusals.specs.Checks.{unless, first}
 use Rattle.ways.specs.Permutation.{Meaning}
 use Rattle.runs.specs.declared.fault.PressFault.{PressFault}
 use Rattle.runs.specs.declared.fault.PressFault.TheVariants.{WrongStage, ShortList, TooManyNames, WaySize, NoName, VertexCount, Seed, Clash}
-use Rattle.runs.specs.declared.answer.Answer.{Answer}
-use Rattle.runs.specs.declared.answer.Answer.TheVariants as answered
+use Rattle.runs.specs.Answers.{Answer}
+use Rattle.runs.specs.declared.answer.Outcome.{Outcome}
+use Rattle.runs.specs.declared.answer.Outcome.TheVariants as answered
 use Rattle.runs.specs.Runs.{ample}
 use Rattle.pressing.specs.declared.press.Pressing.{Pressing}
 use Rattle.pressing.specs.declared.answer.Fit.{Fit as FitAnswer}
@@ -27,26 +28,32 @@ short_gate false a os e = (WrongStage, refl, λ h. let z : ◌≡◌ {A = ℕ} 0
 at_err : {T : Type 0} {A : Type 0} (P : T → Type 0) (r : Result T PressFault) (f : PressFault) → r ≡ Err f → MatchResult r P (λ _. A) → A
 at_err {T} {A} P r f e h = subst (λ (r : Result T PressFault). MatchResult r P (λ _. A)) e h
 
+-- a result that was mapped is the answer of its call
+pub mapped_answer : {T : Type 0} (ok : T → Outcome) (post : T → Outcome → Type 0) (r : Result T PressFault) (a : Answer) → ((x : T) (y : Outcome) → post x y → y ≡ ok x) → MatchResult r (λ x. IsOkAnd a (post x)) (λ f. a ≡ Err f) → a ≡ as_answer ok r
+mapped_answer ok post (Ok x) (Ok y) is h = ap (λ z. Ok z) (is x y h)
+mapped_answer ok post (Ok x) (Err f) is h = absurd h
+mapped_answer ok post (Err f) a is h = h
+
 -- an answer of another call is no length
-no_length : {T : Type 0} (ok : T → Answer) → ((x : T) (k : ℕ) → ok x ≡ answered.Sealed k → ⊥) → (r : Result T PressFault) (a : Answer) → a ≡ as_answer ok r → (k : ℕ) → a ≡ answered.Sealed k → ⊥
-no_length ok ne (Ok x) a e k h = ne x k (sym e ∙ h)
+no_length : {T : Type 0} (ok : T → Outcome) → ((x : T) (k : ℕ) → ok x ≡ answered.Sealed k → ⊥) → (r : Result T PressFault) (a : Answer) → a ≡ as_answer ok r → (k : ℕ) → a ≡ Ok (answered.Sealed k) → ⊥
+no_length ok ne (Ok x) a e k h = ne x k cc
 no_length ok ne (Err f) a e k h = let z : ◌≡◌ {A = ℕ} 0 1 = cc in omega arith
 
 -- a length is answered exactly by an accepted seal
-to_ok : (o : Result ℕ PressFault) (a : Answer) (k : ℕ) → a ≡ as_answer (λ k. answered.Sealed k) o → a ≡ answered.Sealed k → o ≡ Ok k
+to_ok : (o : Result ℕ PressFault) (a : Answer) (k : ℕ) → a ≡ as_answer (λ k. answered.Sealed k) o → a ≡ Ok (answered.Sealed k) → o ≡ Ok k
 to_ok (Ok j) a k e h = ap (λ i. Ok i) (let z : j ≡ k = cc in z)
 to_ok (Err f) a k e h = absurd (let z : ◌≡◌ {A = ℕ} 0 1 = cc in omega arith)
 
-to_err : (o : Result ℕ PressFault) (a : Answer) → a ≡ as_answer (λ k. answered.Sealed k) o → ((k : ℕ) → a ≡ answered.Sealed k → ⊥) → is_err o ≡ true
+to_err : (o : Result ℕ PressFault) (a : Answer) → a ≡ as_answer (λ k. answered.Sealed k) o → ((k : ℕ) → a ≡ Ok (answered.Sealed k) → ⊥) → is_err o ≡ true
 to_err (Ok j) a e ne = absurd (ne j e)
 to_err (Err f) a e ne = refl
 
 -- where no string is lent
-stringless : {N : Type 0} (spelling : N → List ℕ) (kind : ℕ) (p : Pressing N) (l : Memory N) (string : List ℕ) (a : Answer) → ((k : ℕ) → a ≡ answered.Sealed k → ⊥) → StringAfter spelling kind p l a string string
+stringless : {N : Type 0} (spelling : N → List ℕ) (kind : ℕ) (p : Pressing N) (l : Memory N) (string : List ℕ) (a : Answer) → ((k : ℕ) → a ≡ Ok (answered.Sealed k) → ⊥) → StringAfter spelling kind p l a string string
 stringless spelling kind p l string a ne = record { exact = λ m z k e. absurd (ne k e); behind = λ k e. refl; kept = λ _. refl; long = refl }
 
 module _ {N W : Type 0} (spelling : N → List ℕ) (kind : ℕ) (meaning : W → Meaning) where
-  performed : {T : Type 0} {ok : T → Answer} {gate late : Option PressFault} {r : Result T PressFault} {p p' : Pressing N} {l l' : Memory N} {string string' : List ℕ} (c : Call N W) (a : Answer) →
+  performed : {T : Type 0} {ok : T → Outcome} {gate late : Option PressFault} {r : Result T PressFault} {p p' : Pressing N} {l l' : Memory N} {string string' : List ℕ} (c : Call N W) (a : Answer) →
       Done spelling (as_call meaning (lent l) (length string) c) ok gate late p l r p' l' → a ≡ as_answer ok r → (ample (lent l) ≡ false → l' ≡ l) → StringAfter spelling kind p l a string string' →
       Performed spelling kind meaning c p l string a p' l' string'
   performed c a d e s w = record {
@@ -57,7 +64,7 @@ module _ {N W : Type 0} (spelling : N → List ℕ) (kind : ℕ) (meaning : W �
   }
 
   -- by the result of a call that lends no string
-  by_result : {T : Type 0} {ok : T → Answer} {gate late : Option PressFault} {r : Result T PressFault} {p p' : Pressing N} {l l' : Memory N} {string : List ℕ} (c : Call N W) (a : Answer) →
+  by_result : {T : Type 0} {ok : T → Outcome} {gate late : Option PressFault} {r : Result T PressFault} {p p' : Pressing N} {l l' : Memory N} {string : List ℕ} (c : Call N W) (a : Answer) →
       Done spelling (as_call meaning (lent l) (length string) c) ok gate late p l r p' l' → a ≡ as_answer ok r → (ample (lent l) ≡ false → l' ≡ l) → ((x : T) (k : ℕ) → ok x ≡ answered.Sealed k → ⊥) →
       Performed spelling kind meaning c p l string a p' l' string
   by_result {T} {ok} {gate} {late} {r} {p} {p'} {l} {l'} {string} c a d e s ne = performed c a d e s (stringless spelling kind p l string a (no_length ok ne r a e))

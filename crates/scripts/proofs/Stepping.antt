@@ -1,5 +1,5 @@
 -- One step of a script over whole lists, and steps one after the other. Assumes nothing.
-use Rattle.std.proofs.Common.{◌≡◌, ℕ, zero, suc, ◌+◌, ◌-◌, ◌<◌, ◌≤◌, min, Bool, true, false, not, ◌&&◌, eqb, ltb, leb, ◌⊎◌, ◌↔◌, List, [], ◌∷◌, ◌++◌, length, get_or, take, drop, set, Some, None, Option, sym, refl, ap, ◌∙◌, subst, inl, inr, arith}
+use Rattle.std.proofs.Common.{◌≡◌, ℕ, zero, suc, ◌+◌, ◌-◌, ◌<◌, ◌≤◌, min, Bool, true, false, not, ◌&&◌, eqb, ltb, leb, ◌⊎◌, ◌↔◌, List, [], ◌∷◌, ◌++◌, length, get_or, take, drop, set, Some, None, Ok, Err, Option, sym, refl, ap, ◌∙◌, subst, inl, inr, arith}
 use Rattle.std.specs.Str.{bytes_eq}
 use Rattle.std.proofs.lemmas.List.{take-append-le, take-append-drop, length-take, length-append, length-drop, map_more, take_more_set, take_all, get_or-take, take-map, length-map, get_or-map}
 use Rattle.std.proofs.lemmas.Bool.{cases_Bool}
@@ -9,8 +9,8 @@ use Rattle.runs.specs.declared.stage.Stage.{Stage}
 use Rattle.runs.specs.declared.stage.Stage.TheVariants.{Open, Mapped, Ordered, Fitted, Sealed}
 use Rattle.runs.specs.declared.fault.PressFault.{PressFault}
 use Rattle.runs.specs.declared.fault.PressFault.TheVariants.{WrongStage, ShortList, TooManyNames, SpellingEntered, WaySize, NoName, VertexCount, Seed, Clash, Unfit, ShortString}
-use Rattle.runs.specs.declared.answer.Answer.{Answer}
-use Rattle.runs.specs.declared.answer.Answer.TheVariants as answered
+use Rattle.runs.specs.Answers.{Answer}
+use Rattle.runs.specs.declared.answer.Outcome.TheVariants as answered
 use Rattle.runs.specs.Lists.{has, repeats}
 use Rattle.runs.specs.Runs.{Lent, ample, Run, is, rank, count, spellings, triples, same_triple, found, fit_found, fit_answer, string_length, led_to, with_level, stage_after, vertex_order, refusal, unless_refused, accepted, step, continued, answer, answer_accepted, pressed, sealed_string}
 use Rattle.runs.specs.Runs as run
@@ -67,15 +67,15 @@ module _ {N : Type 0} (spelling : N → List ℕ) (m : Run N) where
       go true e = stages_apart Fitted Sealed e (λ q. omega arith)
       go false e = stages_apart Ordered Sealed e (λ q. omega arith)
 
-  by_accepted : (c : run.Call N) → refusal spelling m c ≡ None → ((k : ℕ) → answer spelling m c ≡ answered.Sealed k → ⊥) → (accepted spelling m c).stage ≡ Sealed → accepted spelling m c ≡ m
+  by_accepted : (c : run.Call N) → refusal spelling m c ≡ None → ((k : ℕ) → answer spelling m c ≡ Ok (answered.Sealed k) → ⊥) → (accepted spelling m c).stage ≡ Sealed → accepted spelling m c ≡ m
   by_accepted (run.enter l x v) ok ne e = stages_apart Open Sealed e (λ q. omega arith)
   by_accepted (run.map_to l r seed) ok ne e = stages_apart Mapped Sealed e (λ q. omega arith)
   by_accepted (run.order_by l) ok ne e = stages_apart Ordered Sealed e (λ q. omega arith)
   by_accepted (run.fit l w) ok ne e = by_level (fit_found spelling m w) e
   by_accepted run.reopen ok ne e = stages_apart Open Sealed e (λ q. omega arith)
-  by_accepted (run.seal l room) ok ne e = absurd (ne (string_length m) (ap (λ o. unless_refused o (answered.Sealed (string_length m)) (λ f. answered.Refused f)) ok))
+  by_accepted (run.seal l room) ok ne e = absurd (ne (string_length m) (ap (λ o. unless_refused o (Ok (answered.Sealed (string_length m))) (λ f. Err f)) ok))
 
-  pub stays_sealed : (c : run.Call N) → ((k : ℕ) → answer spelling m c ≡ answered.Sealed k → ⊥) → (step spelling m c).stage ≡ Sealed → step spelling m c ≡ m
+  pub stays_sealed : (c : run.Call N) → ((k : ℕ) → answer spelling m c ≡ Ok (answered.Sealed k) → ⊥) → (step spelling m c).stage ≡ Sealed → step spelling m c ≡ m
   stays_sealed c ne = after_call spelling (λ n. n.stage ≡ Sealed → n ≡ m) m c (λ f e s. refl) (λ ok s. by_accepted c ok ne s)
 
   pub record Sealing (c : run.Call N) (k : ℕ) : Type 0 where
@@ -85,30 +85,30 @@ module _ {N : Type 0} (spelling : N → List ℕ) (m : Run N) where
     pub passed : refusal spelling m c ≡ None
     pub length_is : string_length m ≡ k
 
-  not_length : (c : run.Call N) (k : ℕ) → (answer_accepted spelling m c ≡ answered.Sealed k → ⊥) → answer spelling m c ≡ answered.Sealed k → Sealing c k
-  not_length c k ne e = absurd (ne (was_accepted spelling m c (answered.Sealed k) (λ f q. let z : ◌≡◌ {A = ℕ} 0 1 = cc in omega arith) e).1)
+  not_length : (c : run.Call N) (k : ℕ) → (answer_accepted spelling m c ≡ answered.Sealed k → ⊥) → answer spelling m c ≡ Ok (answered.Sealed k) → Sealing c k
+  not_length c k ne e = absurd (ne (was_accepted spelling m c (answered.Sealed k) e).1)
 
-  pub was_sealing : (c : run.Call N) (k : ℕ) → answer spelling m c ≡ answered.Sealed k → Sealing c k
+  pub was_sealing : (c : run.Call N) (k : ℕ) → answer spelling m c ≡ Ok (answered.Sealed k) → Sealing c k
   was_sealing (run.enter l x v) k e = not_length (run.enter l x v) k (λ q. let z : ◌≡◌ {A = ℕ} 0 1 = cc in omega arith) e
   was_sealing (run.map_to l r seed) k e = not_length (run.map_to l r seed) k (λ q. let z : ◌≡◌ {A = ℕ} 0 1 = cc in omega arith) e
   was_sealing (run.order_by l) k e = not_length (run.order_by l) k (λ q. let z : ◌≡◌ {A = ℕ} 0 1 = cc in omega arith) e
   was_sealing (run.fit l w) k e = not_length (run.fit l w) k (fit_no_length (fit_found spelling m w) k) e
   was_sealing run.reopen k e = not_length run.reopen k (λ q. let z : ◌≡◌ {A = ℕ} 0 1 = cc in omega arith) e
   was_sealing (run.seal l room) k e =
-      let p = was_accepted spelling m (run.seal l room) (answered.Sealed k) (λ f q. let z : ◌≡◌ {A = ℕ} 0 1 = cc in omega arith) e in
+      let p = was_accepted spelling m (run.seal l room) (answered.Sealed k) e in
       record { lent = l; room = room; is_seal = refl; passed = p.0; length_is = same (string_length m) k p.1 }
     where
       same : (i j : ℕ) → answered.Sealed i ≡ answered.Sealed j → i ≡ j
       same i j q = cc
 
-a_length : (a : Answer) → ((k : ℕ) × (a ≡ answered.Sealed k)) ⊎ ((k : ℕ) → a ≡ answered.Sealed k → ⊥)
-a_length answered.Entered = inr (λ k e. let z : ◌≡◌ {A = ℕ} 0 1 = cc in omega arith)
-a_length answered.Mapped = inr (λ k e. let z : ◌≡◌ {A = ℕ} 0 1 = cc in omega arith)
-a_length (answered.Ordered j) = inr (λ k e. let z : ◌≡◌ {A = ℕ} 0 1 = cc in omega arith)
-a_length (answered.Fitted v t) = inr (λ k e. let z : ◌≡◌ {A = ℕ} 0 1 = cc in omega arith)
-a_length answered.Reopened = inr (λ k e. let z : ◌≡◌ {A = ℕ} 0 1 = cc in omega arith)
-a_length (answered.Sealed j) = inl (j, refl)
-a_length (answered.Refused f) = inr (λ k e. let z : ◌≡◌ {A = ℕ} 0 1 = cc in omega arith)
+a_length : (a : Answer) → ((k : ℕ) × (a ≡ Ok (answered.Sealed k))) ⊎ ((k : ℕ) → a ≡ Ok (answered.Sealed k) → ⊥)
+a_length (Ok answered.Entered) = inr (λ k e. let z : ◌≡◌ {A = ℕ} 0 1 = cc in omega arith)
+a_length (Ok answered.Mapped) = inr (λ k e. let z : ◌≡◌ {A = ℕ} 0 1 = cc in omega arith)
+a_length (Ok (answered.Ordered j)) = inr (λ k e. let z : ◌≡◌ {A = ℕ} 0 1 = cc in omega arith)
+a_length (Ok (answered.Fitted v t)) = inr (λ k e. let z : ◌≡◌ {A = ℕ} 0 1 = cc in omega arith)
+a_length (Ok answered.Reopened) = inr (λ k e. let z : ◌≡◌ {A = ℕ} 0 1 = cc in omega arith)
+a_length (Ok (answered.Sealed j)) = inl (j, refl)
+a_length (Err f) = inr (λ k e. let z : ◌≡◌ {A = ℕ} 0 1 = cc in omega arith)
 
 -- 3. one step
 
@@ -153,7 +153,7 @@ module _ {N W : Type 0} (spelling : N → List ℕ) (kind : ℕ) (meaning : W �
     abbrev SealedSo : Run N → Type 0
     SealedSo x = x.stage ≡ Sealed → take (string_length x) (string' ++ drop room string) ≡ sealed_string spelling kind x
 
-    by_length : (k : ℕ) → a ≡ answered.Sealed k → SealedSo (step spelling m call)
+    by_length : (k : ℕ) → a ≡ Ok (answered.Sealed k) → SealedSo (step spelling m call)
     by_length k e =
         let s = was_sealing spelling m call k (sym same_answer ∙ e) in
         let passed : refusal spelling m (run.seal s.lent s.room) ≡ None = subst (λ x. refusal spelling m x ≡ None) s.is_seal s.passed in
@@ -175,7 +175,7 @@ module _ {N W : Type 0} (spelling : N → List ℕ) (kind : ℕ) (meaning : W �
         within : {k : ℕ} (s : Sealing spelling m call k) → string_length m ≤ s.room → k ≤ length string'
         within s fits = omega (arith, s.length_is, fits, seal_room c (lent (first_of n whole)) (length (take room string)) s.room s.lent s.is_seal, d.written.long)
 
-    by_other : ((k : ℕ) → a ≡ answered.Sealed k → ⊥) → SealedSo (step spelling m call)
+    by_other : ((k : ℕ) → a ≡ Ok (answered.Sealed k) → ⊥) → SealedSo (step spelling m call)
     by_other ne e =
         let same : step spelling m call ≡ m = stays_sealed spelling m call (λ k q. ne k (same_answer ∙ q)) e in
         let whole_string : string' ++ drop room string ≡ string = ap (λ (s : List ℕ). s ++ drop room string) (d.written.kept ne) ∙ take-append-drop room string in
@@ -296,15 +296,15 @@ module _ {N W : Type 0} (spelling : N → List ℕ) (meaning : W → Meaning) (l
     (e : take (length script) answers ≡ run.answers spelling m (as_calls meaning whole room script)) where
   pub unfit_in_turn : (i : ℕ) (s : Step N W) (w : W) → i < length script → get_or script i s ≡ s → s.call ≡ Fit w →
       InTurn spelling (before meaning whole room script spelling m i) (lent_of whole s.lengths) (meaning w) →
-      Refuses (get_or answers i answered.Entered) 19 (Some (before meaning whole room script spelling m i).level) ↔ EveryRotationBlocked spelling (before meaning whole room script spelling m i)
+      Refuses (get_or answers i (Ok answered.Entered)) 19 (Some (before meaning whole room script spelling m i).level) ↔ EveryRotationBlocked spelling (before meaning whole room script spelling m i)
   unfit_in_turn i s w at is call turn =
       let cs = as_calls meaning whole room script in
       let c : get_or cs i (as_step meaning whole room s) ≡ run.fit (lent_of whole s.lengths) (meaning w) =
       get_or-map (as_step meaning whole room) script i s (as_step meaning whole room s) at ∙ ap (as_step meaning whole room) is ∙ ap (as_call meaning (lent_of whole s.lengths) (min s.room room)) call in
-      let same : get_or answers i answered.Entered ≡ answer spelling (before meaning whole room script spelling m i) (run.fit (lent_of whole s.lengths) (meaning w)) =
-      sym (get_or-take (length script) answers i answered.Entered at)
-      ∙ ap (λ (xs : List Answer). get_or xs i answered.Entered) e
-      ∙ answer_at spelling m cs i (as_step meaning whole room s) answered.Entered (omega (arith, length-map script (as_step meaning whole room)))
+      let same : get_or answers i (Ok answered.Entered) ≡ answer spelling (before meaning whole room script spelling m i) (run.fit (lent_of whole s.lengths) (meaning w)) =
+      sym (get_or-take (length script) answers i (Ok answered.Entered) at)
+      ∙ ap (λ (xs : List Answer). get_or xs i (Ok answered.Entered)) e
+      ∙ answer_at spelling m cs i (as_step meaning whole room s) (Ok answered.Entered) (omega (arith, length-map script (as_step meaning whole room)))
       ∙ (λ j. answer spelling (continued spelling m (take-map (as_step meaning whole room) i script j)) (c j)) in
       subst (λ a. Refuses a 19 (Some (before meaning whole room script spelling m i).level) ↔ EveryRotationBlocked spelling (before meaning whole room script spelling m i)) (sym same)
       (unfit_exactly spelling (before meaning whole room script spelling m i) (lent_of whole s.lengths) (meaning w) (laws w) turn)

@@ -1,9 +1,9 @@
 -- Scripts: calls one after another on one pressing, each lent first parts of one set of lists and of the string memory.
-use Rattle.std.specs.Prelude.{◌≡◌, ℕ, ◌<◌, ◌≤◌, min, false, ◌↔◌, List, map, length, take, drop, Some, ◌≢◌, slice_index_or}
+use Rattle.std.specs.Prelude.{◌≡◌, ℕ, ◌<◌, ◌≤◌, min, false, ◌↔◌, List, map, length, take, drop, Some, Ok, ◌≢◌, slice_index_or}
 use Rattle.ways.specs.Permutation.{Meaning}
 use Rattle.runs.specs.declared.stage.Stage.TheVariants.{Sealed}
-use Rattle.runs.specs.declared.answer.Answer.{Answer}
-use Rattle.runs.specs.declared.answer.Answer.TheVariants as answered
+use Rattle.runs.specs.Answers.{Answer}
+use Rattle.runs.specs.declared.answer.Outcome.TheVariants as answered
 use Rattle.runs.specs.Runs.{Lent, ample, Run, string_length, step, continued, answer, pressed, sealed_string}
 use Rattle.runs.specs.Plates.{plate_string}
 use Rattle.runs.specs.Laws.{Refuses, InTurn, EveryRotationBlocked, PlateOf}
@@ -28,9 +28,9 @@ as_call meaning l room Seal = run.seal l room
 -- what one call leaves of the string memory: the plate string of a run that left the lists and whatever lay behind it,
 -- if it answers a length, and else all as it was
 pub record StringAfter {N : Type 0} (spelling : N → List ℕ) (kind : ℕ) (p : Pressing N) (l : Memory N) (a : Answer) (string string' : List ℕ) : Type 0 where
-  pub exact : (m : Run N) → Left spelling m p l → (k : ℕ) → a ≡ answered.Sealed k → take k string' ≡ sealed_string spelling kind m
-  pub behind : (k : ℕ) → a ≡ answered.Sealed k → drop k string' ≡ drop k string
-  pub kept : ((k : ℕ) → a ≢ answered.Sealed k) → string' ≡ string
+  pub exact : (m : Run N) → Left spelling m p l → (k : ℕ) → a ≡ Ok (answered.Sealed k) → take k string' ≡ sealed_string spelling kind m
+  pub behind : (k : ℕ) → a ≡ Ok (answered.Sealed k) → drop k string' ≡ drop k string
+  pub kept : ((k : ℕ) → a ≢ Ok (answered.Sealed k)) → string' ≡ string
   pub long : length string' ≡ length string
 
 -- one call over the lists and the string memory that it is lent
@@ -87,7 +87,7 @@ pub record Replayed {N W : Type 0} (spelling : N → List ℕ) (kind : ℕ) (mea
   -- a level asked for in its turn by a way of the right size is answered as unfit exactly if every rotation is blocked
   pub unfit_exactly : (m : Run N) → Holds spelling kind m p l string → (i : ℕ) (s : Step N W) (w : W) → i < length script → slice_index_or script i s ≡ s → s.call ≡ Fit w →
       InTurn spelling (before meaning (lent l) (length string) script spelling m i) (lent_of (lent l) s.lengths) (meaning w) →
-      Refuses (slice_index_or answers' i answered.Entered) 19 (Some (before meaning (lent l) (length string) script spelling m i).level) ↔ EveryRotationBlocked spelling (before meaning (lent l) (length string) script spelling m i)
+      Refuses (slice_index_or answers' i (Ok answered.Entered)) 19 (Some (before meaning (lent l) (length string) script spelling m i).level) ↔ EveryRotationBlocked spelling (before meaning (lent l) (length string) script spelling m i)
   -- and a sealed string is that of the run's plate, which is lawful and holds exactly the names entered
   pub sealed_soundly : (m : Run N) → Holds spelling kind m p l string → (continued spelling m (as_calls meaning (lent l) (length string) script)).stage ≡ Sealed →
       PlateOf spelling (continued spelling m (as_calls meaning (lent l) (length string) script)) (pressed spelling (continued spelling m (as_calls meaning (lent l) (length string) script))) ×

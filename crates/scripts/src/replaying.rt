@@ -1,57 +1,15 @@
 ghost use Rattle.std.specs.Prelude.{◌≡◌, ℕ, ◌<◌, min, map, length, MatchOption};
-ghost use Rattle.runs.specs.declared.answer.Answer.TheVariants.{Ordered, Sealed};
 ghost use Rattle.pressing.specs.Memory.{memory};
-ghost use Rattle.pressing.specs.Left.{as_answer};
-ghost use Rattle.pressing.specs.Calls.{fitted};
 ghost use Rattle.scripts.specs.Script.{Performed, StepTaken, NotReplayed, Replayed};
 
 use crate::script::{Call, Step};
 use graph::rows::{Edge, Row, Vertex};
 use names::kind::Kind;
 use orders::waiting::Waiting;
-use pressing::answer::Fit;
 use pressing::lists::Lists;
 use pressing::press::Pressing;
-use runs::answer::Answer;
-use runs::fault::PressFault;
+use runs::answer::{Answer, Outcome};
 use ways::way::Way;
-
-// Results as answers.
-fn accepted(res: Result<(), PressFault>, answer: Answer) -> Answer
-    ensures { result ≡ as_answer (λ _. answer) res }
-{
-    match res {
-        Ok(_) => answer,
-        Err(fault) => Answer::Refused(fault),
-    }
-}
-
-fn ordered_to(res: Result<u16, PressFault>) -> Answer
-    ensures { result ≡ as_answer (λ k. Ordered k) res }
-{
-    match res {
-        Ok(levels) => Answer::Ordered(levels),
-        Err(fault) => Answer::Refused(fault),
-    }
-}
-
-fn fitted_by(res: Result<Fit, PressFault>) -> Answer
-    ensures { result ≡ as_answer fitted res }
-{
-    match res {
-        Ok(fit) => Answer::Fitted(fit.rotation, fit.tries),
-        Err(fault) => Answer::Refused(fault),
-    }
-}
-
-fn sealed_in(res: Result<usize, PressFault>) -> Answer
-    ensures { result ≡ as_answer (λ k. Sealed k) res }
-{
-    match res {
-        Ok(len) => Answer::Sealed(len),
-        Err(fault) => Answer::Refused(fault),
-    }
-}
 
 // One call over the slices that it is lent.
 fn perform<N: Kind, W: Way>(
@@ -79,13 +37,17 @@ fn perform<N: Kind, W: Way>(
     };
     match call {
         Call::Enter(name, setting) => {
-            accepted(pressing.enter(lists, *name, *setting), Answer::Entered)
+            let entered = pressing.enter(lists, *name, *setting);
+            entered.map(|_| Outcome::Entered)
         }
-        Call::Map(r, seed) => accepted(pressing.map(lists, *r, *seed), Answer::Mapped),
-        Call::Order => ordered_to(pressing.order(lists)),
-        Call::Fit(way) => fitted_by(pressing.fit(lists, way)),
-        Call::Reopen => accepted(pressing.reopen(), Answer::Reopened),
-        Call::Seal => sealed_in(pressing.seal(lists, string)),
+        Call::Map(r, seed) => pressing.map(lists, *r, *seed).map(|_| Outcome::Mapped),
+        Call::Order => pressing.order(lists).map(|levels| Outcome::Ordered(levels)),
+        Call::Fit(way) => {
+            let found = pressing.fit(lists, way);
+            found.map(|fit| Outcome::Fitted(fit.rotation, fit.tries))
+        }
+        Call::Reopen => pressing.reopen().map(|_| Outcome::Reopened),
+        Call::Seal => pressing.seal(lists, string).map(|len| Outcome::Sealed(len)),
     }
 }
 
