@@ -1,5 +1,6 @@
 -- Point names: which bytes are one.
-use Rattle.std.specs.Prelude.{ℕ, Bool, true, ◌&&◌, List, [], ◌∷◌, length, Option}
+use Rattle.std.specs.Prelude.{ℕ, Bool, ◌&&◌, List, length, Option}
+use Rattle.std.specs.List.{list_all}
 use Rattle.refusals.specs.Checks.{unless}
 use Rattle.names.specs.Spellings.{in_range}
 use Rattle.names.specs.declared.fault.NameFault.{NameFault}
@@ -7,8 +8,7 @@ use Rattle.names.specs.declared.fault.NameFault.TheVariants.{OutsideRange}
 
 -- every byte is from 33 to 126: printed, and no space
 abbrev pub all_visible : List ℕ → Bool
-all_visible [] = true
-all_visible (b ∷ bs) = in_range 33 126 b && all_visible bs
+all_visible s = list_all (in_range 33 126) s
 
 -- 1 to 16 such bytes
 abbrev pub point_judged : List ℕ → Bool

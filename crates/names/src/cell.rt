@@ -6,7 +6,7 @@ ghost use Rattle.names.specs.Judged.{cell_parts};
 ghost use Rattle.std.proofs.Common.{rules};
 
 use crate::fault::NameFault;
-use crate::kind::Kind;
+use crate::kind::{Kind, byte_at};
 
 const KIND: u8 = 2;
 
@@ -29,7 +29,7 @@ impl DayCell {
     pub fn new(pan: u16, day: u16) -> Result<DayCell, NameFault>
         ensures { Answered (cell_fault pan day) (λ x. (x.pan ≡ pan) × (x.day ≡ day)) result }
     {
-        if pan < 1 || pan > 999 || day < 1 || day > 366 {
+        if !(1..=999).contains(&pan) || !(1..=366).contains(&day) {
             return Err(NameFault::OutsideRange);
         }
         Ok(DayCell { pan, day })
@@ -41,21 +41,27 @@ impl DayCell {
     {
         (self.pan, self.day)
     }
+
+    /// The bytes that spell the cell.
+    fn bytes(self) -> [u8; 4]
+        ensures { result ≡ cell_spelling self.pan self.day }
+    {
+        let [pan_high, pan_low] = self.pan.to_be_bytes();
+        let [day_high, day_low] = self.day.to_be_bytes();
+        [pan_high, pan_low, day_high, day_low]
+    }
 }
 
 /// The cell that four bytes spell.
 fn cell_in(bytes: &[u8]) -> Option<DayCell>
     ensures { MatchOption result (cell_judged bytes.now ≡ false) (λ x. (cell_judged bytes.now ≡ true) × (cell_spelling x.pan x.day ≡ bytes.now)) }
 {
-    if bytes.len() != LENGTH {
+    let [pan_high, pan_low, day_high, day_low] = bytes else {
         return None;
-    }
-    let pan = u16::from(bytes[0]) * 256 + u16::from(bytes[1]);
-    let day = u16::from(bytes[2]) * 256 + u16::from(bytes[3]);
-    match DayCell::new(pan, day) {
-        Ok(cell) => Some(cell),
-        Err(_) => None,
-    }
+    };
+    let pan = u16::from_be_bytes([*pan_high, *pan_low]);
+    let day = u16::from_be_bytes([*day_high, *day_low]);
+    DayCell::new(pan, day).ok()
 }
 
 impl Kind for DayCell {
@@ -94,13 +100,7 @@ impl Kind for DayCell {
     }
 
     fn byte(&self, place: usize) -> u8 {
-        match place {
-            1 => (self.pan / 256) as u8,
-            2 => (self.pan % 256) as u8,
-            3 => (self.day / 256) as u8,
-            4 => (self.day % 256) as u8,
-            _ => 0,
-        }
+        byte_at(&self.bytes(), place)
     }
 
     fn judge(bytes: &[u8]) -> bool {

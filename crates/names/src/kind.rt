@@ -54,3 +54,13 @@ pub trait Kind: Copy {
 
     ghost judged_yes_are_spellings: { (s : List ℕ) → Bytes s → judged s ≡ true → (x : Self) × (spelling x ≡ s) };
 }
+
+/// The byte of a spelling at a place, which counts from 1; 0 where there is none.
+pub(crate) fn byte_at(spelling: &[u8], place: usize) -> u8
+    ensures { result ≡ slice_index (0 ∷ spelling.now) place }
+{
+    match place.checked_sub(1) {
+        Some(index) => spelling.get(index).copied().unwrap_or(0),
+        None => 0,
+    }
+}

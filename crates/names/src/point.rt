@@ -1,12 +1,11 @@
 ghost use Rattle.std.specs.Prelude.{◌≡◌, ℕ, ◌-◌, ◌≤◌, Bool, true, List, ◌++◌, length, take, replicate, MatchOption};
 ghost use Rattle.refusals.specs.Checks.{Answered};
-ghost use Rattle.names.specs.Spellings.{in_range};
 ghost use Rattle.names.specs.Points.{all_visible, point_judged, point_fault};
 ghost use Rattle.names.specs.Judged.{visible_low, point_parts};
 ghost use Rattle.std.proofs.Common.{rules};
 
 use crate::fault::NameFault;
-use crate::kind::Kind;
+use crate::kind::{Kind, byte_at};
 
 const KIND: u8 = 1;
 
@@ -21,30 +20,11 @@ pub struct PointName {
     ghost visible: { all_visible (take len bytes) ≡ true },
 }
 
-/// Whether a byte is from 33 to 126.
-fn is_visible(b: u8) -> bool
-    ensures { result ≡ in_range 33 126 b }
-{
-    33 <= b && b <= 126
-}
-
-/// Whether every byte is.
-fn are_visible(bytes: &[u8]) -> bool
-    ensures { result ≡ all_visible bytes.now }
-{
-    for b in bytes {
-        if !is_visible(*b) {
-            return false;
-        }
-    }
-    true
-}
-
 /// Whether the bytes are a point name.
 fn is_point(bytes: &[u8]) -> bool
     ensures { result ≡ point_judged bytes.now }
 {
-    1 <= bytes.len() && bytes.len() <= 16 && are_visible(bytes)
+    (1..=16).contains(&bytes.len()) && bytes.iter().all(u8::is_ascii_graphic)
 }
 
 /// The bytes, and zeros after them.
@@ -54,7 +34,7 @@ fn padded(bytes: &[u8]) -> [u8; 16]
     ensures kept { take (length bytes.now) result ≡ bytes.now }
 {
     let mut whole = [0; 16];
-    whole[0..bytes.len()].copy_from_slice(bytes);
+    whole[..bytes.len()].copy_from_slice(bytes);
     whole
 }
 
@@ -76,7 +56,7 @@ impl PointName {
     pub fn text(&self) -> &[u8]
         ensures { result.now ≡ take self.now.len self.now.bytes }
     {
-        &self.bytes[0..self.len as usize]
+        &self.bytes[..usize::from(self.len)]
     }
 }
 
@@ -116,11 +96,7 @@ impl Kind for PointName {
     }
 
     fn byte(&self, place: usize) -> u8 {
-        let len = self.len as usize;
-        if place < 1 || place > len {
-            return 0;
-        }
-        self.bytes[place - 1]
+        byte_at(self.text(), place)
     }
 
     fn judge(bytes: &[u8]) -> bool {
@@ -128,9 +104,6 @@ impl Kind for PointName {
     }
 
     fn spelled(bytes: &[u8]) -> Option<PointName> {
-        match PointName::new(bytes) {
-            Ok(name) => Some(name),
-            Err(_) => None,
-        }
+        PointName::new(bytes).ok()
     }
 }

@@ -6,10 +6,8 @@ ghost use Rattle.refusals.specs.Laws.{FirstBrokenRefuses, LowestBrokenRefuses, A
 
 /// A refusal is by the first check that is broken, and among numbered ones by the lowest;
 /// where nothing is refused, every check is met.
-pub fn first_broken_check_refuses<F>() -> u8
+pub fn first_broken_check_refuses<F>()
     ensures first { FirstBrokenRefuses F }
     ensures lowest { LowestBrokenRefuses F }
     ensures met { AllMet F }
-{
-    0
-}
+{}
