@@ -23,7 +23,7 @@ impl Seed {
     pub fn new(value: u32) -> Result<Seed, HashFault>
         ensures { Answered (seed_fault value) (λ x. x.value ≡ value) result }
     {
-        if value < 1 || value > 2147483646 {
+        if !(1..=2147483646).contains(&value) {
             return Err(HashFault::SeedRange);
         }
         Ok(Seed { value })

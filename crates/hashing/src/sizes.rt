@@ -27,7 +27,7 @@ impl Sizes {
         if n < 1 {
             return Err(HashFault::NoName);
         }
-        if r < 1 || r > 1024 {
+        if !(1..=1024).contains(&r) {
             return Err(HashFault::VertexCount);
         }
         Ok(Sizes { n: n as u16, r })

@@ -2,6 +2,7 @@ ghost use Rattle.std.specs.Prelude.{◌≡◌, ℕ, ◌<◌, ◌≤◌, [], ◌�
 ghost use Rattle.refusals.specs.Checks.{Told};
 ghost use Rattle.hashing.specs.Faults.{room_fault};
 ghost use Rattle.hashing.specs.Filling.{filled};
+ghost use Rattle.hashing.specs.Generator.{drawn};
 
 use crate::fault::HashFault;
 use crate::seed::Seed;
@@ -19,10 +20,17 @@ pub fn fill(memory: &mut [u32], seed: Seed) -> Result<(), HashFault>
     if memory.len() < TABLE_NUMBERS {
         return Err(HashFault::ShortTables);
     }
-    let mut state = seed;
-    for i in 0..TABLE_NUMBERS {
-        state = state.next();
-        memory[i] = state.value();
-    }
+    draw(&mut memory[..TABLE_NUMBERS], seed);
     Ok(())
+}
+
+/// Fills memory with the states after 1, 2, .. steps from the seed.
+fn draw(memory: &mut [u32], seed: Seed)
+    ensures { memory.new ≡ drawn (length memory.old) seed.value }
+{
+    let mut state = seed;
+    for number in memory {
+        state = state.next();
+        *number = state.value();
+    }
 }

@@ -1,4 +1,5 @@
-ghost use Rattle.std.specs.Prelude.{◌≡◌, ℕ, ◌+◌, ◌-◌, ◌*◌, ◌%◌, ◌<◌, ◌≤◌, length};
+ghost use Rattle.std.specs.Prelude.{◌≡◌, ℕ, ◌+◌, ◌*◌, ◌%◌, ◌<◌, ◌≤◌, true, false, List, length, nat_le, MatchOption};
+ghost use Rattle.std.specs.Iterator.{Drains, UpTo};
 ghost use Rattle.hashing.specs.Generator.{entry as entry_of};
 ghost use Rattle.hashing.specs.Triples.{sum, hashed};
 
@@ -6,37 +7,79 @@ use crate::sizes::Sizes;
 use crate::tables::TABLE_NUMBERS;
 use names::kind::Kind;
 
-/// The sums of the three functions over the places of a spelling.
+/// Tables that are long enough, whatever they hold.
+#[derive(Clone, Copy)]
+struct Tables<'a> {
+    numbers: &'a [u32],
+    ghost full: { 12288 ≤ length numbers.now },
+}
+
+impl<'a> Tables<'a> {
+    /// Tables over these numbers; none exactly if they are short of 12,288.
+    fn over(numbers: &'a [u32]) -> Option<Tables<'a>>
+        ensures { MatchOption result (nat_le 12288 (length numbers.now) ≡ false) (λ t. (nat_le 12288 (length numbers.now) ≡ true) × (t.numbers.now ≡ numbers.now)) }
+    {
+        if numbers.len() < TABLE_NUMBERS {
+            return None;
+        }
+        Some(Tables { numbers })
+    }
+}
+
+/// The sums of the three functions over the first places of a spelling.
 #[derive(Clone, Copy)]
 struct Sums {
+    places: usize,
     s0: u64,
     s1: u64,
     s2: u64,
+    ghost few: { places ≤ 16 },
+    ghost s0_small: { s0 ≤ places * 4294967296 },
+    ghost s1_small: { s1 ≤ places * 4294967296 },
+    ghost s2_small: { s2 ≤ places * 4294967296 },
 }
 
-const NO_SUMS: Sums = Sums {
-    s0: 0,
-    s1: 0,
-    s2: 0,
-};
-
 impl Sums {
-    /// The sums with the numbers of one more byte, which stands at this place.
-    fn with(self, tables: &[u32], place: usize, byte: u8) -> Sums
-        requires full { 12288 ≤ length tables.now }
-        requires placed { (1 ≤ place) × (place ≤ 16) }
-        requires small { (self.s0 ≤ (place - 1) * 4294967296) × (self.s1 ≤ (place - 1) * 4294967296) × (self.s2 ≤ (place - 1) * 4294967296) }
-        ensures s0 { result.s0 ≡ self.s0 + entry_of tables.now 0 place byte }
-        ensures s1 { result.s1 ≡ self.s1 + entry_of tables.now 1 place byte }
-        ensures s2 { result.s2 ≡ self.s2 + entry_of tables.now 2 place byte }
-        ensures small { (result.s0 ≤ place * 4294967296) × (result.s1 ≤ place * 4294967296) × (result.s2 ≤ place * 4294967296) }
+    /// The sums over no place.
+    fn none() -> Sums
+        ensures { (result.places ≡ 0) × (result.s0 ≡ 0) × (result.s1 ≡ 0) × (result.s2 ≡ 0) }
     {
-        let at = (place - 1) * 256 + byte as usize;
         Sums {
-            s0: self.s0 + u64::from(tables[at]),
-            s1: self.s1 + u64::from(tables[4096 + at]),
-            s2: self.s2 + u64::from(tables[8192 + at]),
+            places: 0,
+            s0: 0,
+            s1: 0,
+            s2: 0,
         }
+    }
+
+    /// The sums with the numbers of one more byte, at the next place.
+    fn with(self, tables: Tables, byte: u8) -> Sums
+        requires { self.places < 16 }
+        ensures places { result.places ≡ self.places + 1 }
+        ensures s0 { result.s0 ≡ self.s0 + entry_of tables.entry.numbers.now 0 (self.places + 1) byte }
+        ensures s1 { result.s1 ≡ self.s1 + entry_of tables.entry.numbers.now 1 (self.places + 1) byte }
+        ensures s2 { result.s2 ≡ self.s2 + entry_of tables.entry.numbers.now 2 (self.places + 1) byte }
+    {
+        let at = self.places * 256 + usize::from(byte);
+        Sums {
+            places: self.places + 1,
+            s0: self.s0 + u64::from(tables.numbers[at]),
+            s1: self.s1 + u64::from(tables.numbers[4096 + at]),
+            s2: self.s2 + u64::from(tables.numbers[8192 + at]),
+        }
+    }
+
+    /// The sums over at most 16 bytes, in their order.
+    fn over<I: Iterator<Item = u8> + Drop>(tables: Tables, bytes: I) -> Sums
+        requires can { I.can_next bytes }
+        requires few { UpTo (I.remaining bytes) 16 }
+        ensures { (xs : List ℕ) × Drains I.next_gives bytes xs × (result.s0 ≡ sum tables.entry.numbers.now 0 xs) × (result.s1 ≡ sum tables.entry.numbers.now 1 xs) × (result.s2 ≡ sum tables.entry.numbers.now 2 xs) }
+    {
+        let mut sums = Sums::none();
+        for byte in bytes {
+            sums = sums.with(tables, byte);
+        }
+        sums
     }
 
     /// The triple that the sums give.
@@ -53,38 +96,13 @@ impl Sums {
     }
 }
 
-/// The sums over a name, read from the bytes that it tells.
-fn sums_of<N: Kind>(tables: &[u32], name: &N) -> Sums
-    requires { 12288 ≤ length tables.now }
-    ensures { (result.s0 ≡ sum tables.now 0 (N.spelling name.now)) × (result.s1 ≡ sum tables.now 1 (N.spelling name.now)) × (result.s2 ≡ sum tables.now 2 (N.spelling name.now)) }
-{
-    let mut sums = NO_SUMS;
-    for i in 0..name.len() {
-        sums = sums.with(tables, i + 1, name.byte(i + 1));
-    }
-    sums
-}
-
-/// The sums over at most 16 bytes, read where they lie.
-fn sums_at(tables: &[u32], bytes: &[u8]) -> Sums
-    requires { (12288 ≤ length tables.now) × (length bytes.now ≤ 16) }
-    ensures { (result.s0 ≡ sum tables.now 0 bytes.now) × (result.s1 ≡ sum tables.now 1 bytes.now) × (result.s2 ≡ sum tables.now 2 bytes.now) }
-{
-    let mut sums = NO_SUMS;
-    for (i, b) in bytes.iter().enumerate() {
-        sums = sums.with(tables, i + 1, *b);
-    }
-    sums
-}
-
 /// The triple of a name, whatever the tables hold; none exactly if they are short of 12,288.
 pub fn triple_of<N: Kind>(tables: &[u32], sizes: Sizes, name: &N) -> Option<(u16, u16, u16)>
     ensures { result ≡ hashed tables.now sizes.n sizes.r (N.spelling name.now) }
 {
-    if tables.len() < TABLE_NUMBERS {
-        return None;
-    }
-    Some(sums_of(tables, name).triple(sizes))
+    let tables = Tables::over(tables)?;
+    let bytes = (0..name.len()).map(|i| name.byte(i + 1));
+    Some(Sums::over(tables, bytes).triple(sizes))
 }
 
 /// The triple of the bytes of a spelling where they lie, which is that of its name; none
@@ -92,8 +110,9 @@ pub fn triple_of<N: Kind>(tables: &[u32], sizes: Sizes, name: &N) -> Option<(u16
 pub fn triple_at(tables: &[u32], sizes: Sizes, bytes: &[u8]) -> Option<(u16, u16, u16)>
     ensures { result ≡ hashed tables.now sizes.n sizes.r bytes.now }
 {
-    if tables.len() < TABLE_NUMBERS || bytes.len() < 1 || bytes.len() > 16 {
+    let tables = Tables::over(tables)?;
+    if !(1..=16).contains(&bytes.len()) {
         return None;
     }
-    Some(sums_at(tables, bytes).triple(sizes))
+    Some(Sums::over(tables, bytes.iter().copied()).triple(sizes))
 }
