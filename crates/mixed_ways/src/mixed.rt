@@ -13,8 +13,6 @@ pub enum Mixed<A, B> {
 impl<A: Way, B: Way> Way for Mixed<A, B> {
     ghost meaning = { λ w. elim w [ One a ↦ A.Way.meaning a | Other b ↦ B.Way.meaning b ] };
 
-    ghost laws = { λ w. elim w as (λ k. Permutes (elim k [ One a ↦ A.Way.meaning a | Other b ↦ B.Way.meaning b ])) [ One a ↦ A.Way.laws a | Other b ↦ B.Way.laws b ] };
-
     fn size(&self) -> u16 {
         match self {
             Mixed::One(way) => way.size(),
@@ -28,4 +26,6 @@ impl<A: Way, B: Way> Way for Mixed<A, B> {
             Mixed::Other(way) => way.rotation(level, step),
         }
     }
+
+    ghost laws = { λ w. elim w as (λ k. Permutes (elim k [ One a ↦ A.Way.meaning a | Other b ↦ B.Way.meaning b ])) [ One a ↦ A.Way.laws a | Other b ↦ B.Way.laws b ] };
 }

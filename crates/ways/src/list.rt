@@ -1,17 +1,32 @@
-ghost use Rattle.std.specs.Prelude.{◌≡◌, ℕ, ◌<◌, ◌≤◌, true, false, not, [], ◌∷◌, length, MatchResult, slice_index_or, slice_set};
+ghost use Rattle.std.specs.Prelude.{◌≡◌, ℕ, ◌<◌, ◌≤◌, ⊤, true, false, not, [], ◌∷◌, length, MatchResult, slice_index_or, slice_set};
 ghost use Rattle.ways.specs.Faults.{ListRefused};
 ghost use Rattle.ways.specs.Listing.{EachOnce, Listed, list_meaning};
 ghost use Rattle.ways.specs.Laws.{list_permutes};
 
+use std::alloc::AllocError;
+use std::convert::AsSlice;
+
 use crate::fault::WayFault;
 use crate::way::Way;
 
-/// The way that reads its rotations from a lent list, the same for every level.
-#[derive(Clone, Copy, Drop)]
-pub struct ListWay<'a> {
-    rotations: &'a [u16],
-    ghost ok: { Listed rotations.now },
+/// The way that reads its rotations from a list, lent or its own, the same for every level.
+#[derive(Drop)]
+pub struct ListWay<L: AsSlice<u16>> {
+    rotations: L,
+    ghost ok: { Listed (L.items rotations) },
 }
+
+impl<L: AsSlice<u16> + Copy> Clone for ListWay<L> {
+    ghost is_clone = { λ x y. y ≡ x };
+
+    ghost is_infallible = { λ _. ⊤ };
+
+    fn clone(&self) -> Result<ListWay<L>, AllocError> {
+        Ok(*self)
+    }
+}
+
+impl<L: AsSlice<u16> + Copy> Copy for ListWay<L> {}
 
 // Marks v, and says whether it was unmarked.
 fn mark(marks: &mut [bool], v: usize) -> bool
@@ -40,43 +55,50 @@ fn each_once(xs: &[u16]) -> bool
     true
 }
 
-/// Hands on exactly the lists that make a way: refused with 2 for the size, and else with 3 if it is not each rotation once.
-pub fn check_list<'a>(rotations: &'a [u16]) -> Result<&'a [u16], WayFault>
-    ensures { MatchResult result (λ xs. (xs.now ≡ rotations.now) × Listed rotations.now) (λ e. ListRefused rotations.now e) }
+// Refuses exactly the lists that make no way.
+fn check_list(rotations: &[u16]) -> Result<(), WayFault>
+    ensures { MatchResult result (λ _. Listed rotations.now) (λ e. ListRefused rotations.now e) }
 {
-    let n = rotations.len();
-    if n < 1 || n > 1024 {
+    if !(1..=1024).contains(&rotations.len()) {
         return Err(WayFault::BrokenRule);
     }
     if !each_once(rotations) {
         return Err(WayFault::NotEachOnce);
     }
-    Ok(rotations)
+    Ok(())
 }
 
-impl<'a> ListWay<'a> {
-    /// The way of a list that `check_list` hands on; of any other list, the way of the one rotation 0.
-    pub fn over(rotations: &'a [u16]) -> ListWay<'a>
+impl<L: AsSlice<u16> + Drop> ListWay<L> {
+    /// The way of the list; refused with 2 for the size, and else with 3 if it is not each rotation once.
+    pub fn new(rotations: L) -> Result<ListWay<L>, WayFault>
+        ensures { MatchResult result (λ w. (w.rotations ≡ rotations) × Listed (L.items rotations)) (λ e. ListRefused (L.items rotations) e) }
+    {
+        check_list(rotations.as_slice())?;
+        Ok(ListWay { rotations })
+    }
+}
+
+impl<'a> ListWay<&'a [u16]> {
+    /// The way of a lawful list; of any other list, the way of the one rotation 0.
+    pub fn over(rotations: &'a [u16]) -> ListWay<&'a [u16]>
         ensures listed { Listed rotations.now → result.rotations.now ≡ rotations.now }
         ensures unlisted { (Listed rotations.now → ⊥) → result.rotations.now ≡ 0 ∷ [] }
     {
-        match check_list(rotations) {
-            Ok(lawful) => ListWay { rotations: lawful },
-            Err(_) => ListWay { rotations: &[0] },
-        }
+        ListWay::new(rotations).unwrap_or(ListWay { rotations: &[0] })
     }
 }
 
-impl<'a> Way for ListWay<'a> {
-    ghost meaning = { λ w. list_meaning w.rotations.now };
-
-    ghost laws = { λ w. list_permutes w.rotations.now w.ok };
+impl<L: AsSlice<u16>> Way for ListWay<L> {
+    ghost meaning = { λ w. list_meaning (L.items w.rotations) };
 
     fn size(&self) -> u16 {
-        self.rotations.len() as u16
+        self.rotations.as_slice().len() as u16
     }
 
     fn rotation(&self, _level: usize, step: usize) -> u16 {
-        self.rotations[step % self.rotations.len()]
+        let rotations = self.rotations.as_slice();
+        rotations[step % rotations.len()]
     }
+
+    ghost laws = { λ w. list_permutes (L.items w.rotations) w.ok };
 }

@@ -23,9 +23,7 @@ fn gcd(a: u16, b: u16) -> u16
     let mut x = a;
     let mut y = b;
     while y != 0 {
-        let rest = x % y;
-        x = y;
-        y = rest;
+        (x, y) = (y, x % y);
     }
     x
 }
@@ -43,10 +41,8 @@ impl StrideWay {
     pub fn new(size: u16, start: u16, stride: u16) -> Result<StrideWay, WayFault>
         ensures { MatchResult result (λ w. StrideRule size start stride × (w.size ≡ size) × (w.start ≡ start) × (w.stride ≡ stride)) (λ e. (number e ≡ 2) × (StrideRule size start stride → ⊥)) }
     {
-        if size < 1 || size > 1024 || start >= size || stride < 1 || stride > size {
-            return Err(WayFault::BrokenRule);
-        }
-        if !are_coprime(size, stride) {
+        let in_range = (1..=1024).contains(&size) && start < size && (1..=size).contains(&stride);
+        if !in_range || !are_coprime(size, stride) {
             return Err(WayFault::BrokenRule);
         }
         Ok(StrideWay {
@@ -60,14 +56,14 @@ impl StrideWay {
 impl Way for StrideWay {
     ghost meaning = { λ w. stride_meaning w.size w.start w.stride };
 
-    ghost laws = { λ w. stride_permutes w.size w.start w.stride w.ok };
-
     fn size(&self) -> u16 {
         self.size
     }
 
     fn rotation(&self, level: usize, step: usize) -> u16 {
-        let n = self.size as usize;
-        (((level % 2048) * self.start as usize + (step % n) * self.stride as usize) % n) as u16
+        let n = usize::from(self.size);
+        (((level % 2048) * usize::from(self.start) + (step % n) * usize::from(self.stride)) % n) as u16
     }
+
+    ghost laws = { λ w. stride_permutes w.size w.start w.stride w.ok };
 }

@@ -6,9 +6,6 @@ pub trait Way {
     /// The size, and the rotation of each step at each level.
     ghost meaning: { Self → Meaning };
 
-    /// At every level the rotations are 0 to the size less one, each once.
-    ghost laws: { (w : Self) → Permutes (meaning w) };
-
     /// The number of rotations, 1 to 1,024.
     fn size(&self) -> u16
         ensures { result ≡ (meaning self.now).size };
@@ -16,4 +13,7 @@ pub trait Way {
     /// The rotation numbered `step` mod the size, at `level` mod 2,048.
     fn rotation(&self, level: usize, step: usize) -> u16
         ensures { result ≡ asked (meaning self.now) level step };
+
+    /// At every level the rotations are 0 to the size less one, each once.
+    ghost laws: { (w : Self) → Permutes (meaning w) };
 }

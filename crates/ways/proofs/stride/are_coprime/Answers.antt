@@ -1,13 +1,6 @@
-use Rattle.std.proofs.lemmas.Bool.{eqb-true, eqb-false}
-use Rattle.ways.proofs.Gcds.{one_coprime, other_common}
+use Rattle.std.proofs.lemmas.Bool.{eqb-true}
+use Rattle.ways.proofs.Gcds.{one_coprime}
 use Rattle.ways.proofs.stride.are_coprime.Goals as goal
 
-pub returns : goal.returns
-returns c =
-    let a = c.args.a in
-    let b = c.args.b in
-    let g = c.gcd.result in
-    record {
-      yes = λ e. one_coprime a b g c.gcd.ensures (eqb-true g 1 e);
-      other = λ e. other_common a b g c.gcd.ensures (eqb-false g 1 e);
-    }
+pub returns-clause-yes : goal.returns-clause-yes
+returns-clause-yes c = λ e. one_coprime c.args.a c.args.b c.gcd.result c.gcd.ensures (eqb-true c.gcd.result 1 e)
