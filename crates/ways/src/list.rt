@@ -3,11 +3,10 @@ ghost use Rattle.ways.specs.Faults.{ListRefused};
 ghost use Rattle.ways.specs.Listing.{EachOnce, Listed, list_meaning};
 ghost use Rattle.ways.specs.Laws.{list_permutes};
 
-use std::alloc::AllocError;
-use std::convert::AsSlice;
-
 use crate::fault::WayFault;
 use crate::way::Way;
+use std::alloc::AllocError;
+use std::convert::AsSlice;
 
 /// The way that reads its rotations from a list, lent or its own, the same for every level.
 #[derive(Drop)]

@@ -62,7 +62,8 @@ impl Way for StrideWay {
 
     fn rotation(&self, level: usize, step: usize) -> u16 {
         let n = usize::from(self.size);
-        (((level % 2048) * usize::from(self.start) + (step % n) * usize::from(self.stride)) % n) as u16
+        (((level % 2048) * usize::from(self.start) + (step % n) * usize::from(self.stride))
+            % n) as u16
     }
 
     ghost laws = { λ w. stride_permutes w.size w.start w.stride w.ok };

@@ -9,7 +9,7 @@ use Rattle.fitting.proofs.slots.first_that_fits.Goals as goal
 
 pub are_apart-requires : goal.are_apart-requires
 are_apart-requires g c =
-    let law = g.W.Way.laws c.args.way.now in
+    let law = g.met.W.Way.laws c.args.way.now in
     (omega (arith, law.some, c.size.ensures), omega (arith, law.most, c.size.ensures))
 
 pub trying-init : goal.trying-init

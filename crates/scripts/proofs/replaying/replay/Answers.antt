@@ -27,4 +27,4 @@ pub returns : goal.returns
 returns g c =
     let enough : length c.args.script.now ≤ length c.args.answers.now = c.if-answers-script.false in
     let all : length c.args.script.now ≡ c.loop-i.i = omega (arith, c.loop-i-test.false, c.loop-i.auto.i-end) in
-    replayed g.N.Kind.spelling g.N.Kind.number g.W.Way.meaning g.W.Way.laws c.args.script.now _ _ _ _ _ _ _ _ c.loop-i.i enough all c.loop-i.invariant.1 c.loop-i.invariant.0
+    replayed g.N.Kind.spelling g.N.Kind.number g.W.Way.meaning g.met.W.Way.laws c.args.script.now _ _ _ _ _ _ _ _ c.loop-i.i enough all c.loop-i.invariant.1 c.loop-i.invariant.0

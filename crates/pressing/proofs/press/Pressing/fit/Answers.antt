@@ -34,5 +34,5 @@ pub returns : goal.returns
 returns g c =
     step.accepted _ _ _ _ _ (sym c.after.ensures ∙ c.in_ok-next.was) c.if-not-are_ample.ensures
     (sym c.size.ensures ∙ sym c.from.ensures ∙ c.if-from-count.false) c.if-level-self.false c.from-r.ensures c.from-2.ensures _ _ _
-    c.fit_level-found.ensures.told (g.W.Way.laws c.args.way.now) c.fit_level-found.auto.slots refl c.in_ok-rotation.ensures.ok_part c.fit_level-found.ensures.given
+    c.fit_level-found.ensures.told (g.met.W.Way.laws c.args.way.now) c.fit_level-found.auto.slots refl c.in_ok-rotation.ensures.ok_part c.fit_level-found.ensures.given
     _ refl refl refl refl refl refl
