@@ -3,6 +3,7 @@ ghost use Rattle.orders.specs.Sooner.{sooner};
 ghost use Rattle.std.proofs.Common.{rules};
 
 use heap::Ordered;
+use std::cmp::Reverse;
 
 /// A vertex that waits for its place in the order of vertices, with its number of edges.
 #[derive(Clone, Copy)]
@@ -18,9 +19,6 @@ impl Ordered for Waiting {
     ghost strict = { Prim.search rules };
 
     fn comes_before(&self, other: &Waiting) -> bool {
-        if self.degree != other.degree {
-            return self.degree > other.degree;
-        }
-        self.vertex < other.vertex
+        (Reverse(self.degree), self.vertex) < (Reverse(other.degree), other.vertex)
     }
 }
