@@ -1,6 +1,7 @@
 -- Marks in an array, one for each number met: every number met is marked, and nothing else. Assumes nothing.
-use Rattle.std.proofs.Common.{◌≡◌, ℕ, zero, suc, ◌<◌, Bool, true, false, List, get_or, replicate, refl, arith}
-use Rattle.std.proofs.lemmas.Bool.{both_ways}
+use Rattle.std.proofs.Common.{◌≡◌, ℕ, zero, suc, ◌+◌, ◌<◌, Bool, true, false, List, length, get_or, set, replicate, sym, refl, ap, ◌∙◌, inl, inr, arith}
+use Rattle.std.proofs.lemmas.List.{get_or-set_same, get_or-set_other}
+use Rattle.std.proofs.lemmas.Bool.{cases_eq, both_ways}
 
 -- the numbers f 0 to f (i - 1) are different, and the marks are at those and at no others
 pub record Marked (f : ℕ → ℕ) (i : ℕ) (marks : List Bool) : Type 0 where
@@ -19,3 +20,31 @@ marked_none f n = record {
   only = λ v h. absurd (both_ways (get_or (replicate n false) v false) (unmarked n v) h);
   apart = λ j k h. let m = h.1 in omega arith;
 }
+
+module _ (f : ℕ → ℕ) (i : ℕ) (marks : List Bool) (h : Marked f i marks) where
+  all_more : f i < length marks → (k : ℕ) → k < i + 1 → get_or (set marks (f i) true) (f k) false ≡ true
+  all_more l k hk =
+      elim (cases_eq (f k) (f i)) [
+        | inl e ↦ ap (λ p. get_or (set marks (f i) true) p false) e ∙ get_or-set_same marks (f i) true false l
+        | inr ne ↦ get_or-set_other marks (f i) (f k) true false ne
+            ∙ elim (cases_eq k i) [ inl s ↦ absurd (ne (ap f s)) | inr s ↦ h.all k (omega arith) ]
+      ]
+
+  only_more : (v : ℕ) → get_or (set marks (f i) true) v false ≡ true → (j : ℕ) × (j < i + 1) × (f j ≡ v)
+  only_more v t =
+      elim (cases_eq v (f i)) [
+        | inl e ↦ (i, omega arith, sym e)
+        | inr ne ↦ let b = h.only v (sym (get_or-set_other marks (f i) v true false ne) ∙ t) in (b.0, omega (arith, b.1), b.2)
+      ]
+
+  apart_more : get_or marks (f i) false ≡ false → (j k : ℕ) → (j < k) × (k < i + 1) × (f j ≡ f k) → ⊥
+  apart_more new j k t =
+      let lt = t.0 in let below = t.1 in
+      elim (cases_eq k i) [
+        | inl e ↦ both_ways (get_or marks (f i) false) new
+            (ap (λ p. get_or marks p false) (sym (t.2 ∙ ap f e)) ∙ h.all j (omega arith))
+        | inr ne ↦ h.apart j k (lt, omega arith, t.2)
+      ]
+
+  pub marked_more : f i < length marks → get_or marks (f i) false ≡ false → Marked f (i + 1) (set marks (f i) true)
+  marked_more l new = record { all = all_more l; only = only_more; apart = apart_more new }
