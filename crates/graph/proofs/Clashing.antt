@@ -1,12 +1,17 @@
 -- Equal triples, found along the chains.
-use Rattle.std.proofs.Common.{◌≡◌, ℕ, zero, suc, ◌-◌, ◌<◌, ◌≤◌, Bool, true, false, ◌&&◌, eqb, List, [], ◌∷◌, length, get_or, sym, refl, ap, ◌∙◌, inl, inr, arith}
-use Rattle.std.proofs.lemmas.Bool.{cases_eq, cases_lt, eq-eqb, eqb-true, ne_eqb, or_left, or_right, or_from, and_left, and_right}
+use Rattle.std.proofs.Common.{◌≡◌, ℕ, zero, suc, ◌-◌, ◌<◌, Bool, true, false, ◌&&◌, eqb, List, [], ◌∷◌, length, get_or, take, sym, refl, ap, ◌∙◌, subst, inl, inr, arith}
+use Rattle.std.specs.Bool.{MatchBool}
+use Rattle.std.specs.List.{AllWithin, HoldsAt, range_with_len}
+use Rattle.std.proofs.lemmas.List.FromFn.{length-range_with_len, get_or-range_with_len}
+use Rattle.std.proofs.lemmas.Bool.{cases_eq, cases_Bool, eq-eqb, ne_eqb, or_left, or_right, or_from, and_left, and_right}
+use Rattle.std.proofs.lemmas.List.{length-take-le}
 use Rattle.hashing.specs.Triples.{Triple}
 use Rattle.runs.specs.Lists.{has}
 use Rattle.runs.specs.Runs.{same_triple}
 use Rattle.graph.specs.declared.rows.Edge.{Edge}
-use Rattle.graph.specs.Chains.{nil, of_tuple, latest, same1, Edges, link, Repeats, clashes}
-use Rattle.graph.proofs.Latest.{latest_same, latest_le, latest_past, latest_passes}
+use Rattle.graph.specs.Chains.{nil, of_tuple, same1, Edges, link, Repeats, clashes}
+use Rattle.graph.specs.Walks.{walk, walk_below, rows_where}
+use Rattle.graph.proofs.Walked.{walk_taken, walk_same, listed_passes, passing_listed}
 
 eqb_sym : (a b : ℕ) → eqb a b ≡ eqb b a
 eqb_sym a b = elim (cases_eq a b) [
@@ -41,52 +46,56 @@ clash_none (e ∷ es) h = or_from (has same_triple e es) (clashes es)
 apart_first : (es : List Triple) (i j : ℕ) → same1 es i j ≡ false → same_triple (get_or es i nil) (get_or es j nil) ≡ false
 apart_first es i j h = and_right (eqb (get_or es i nil).h0 (get_or es j nil).h0) _ (and_left (eqb (get_or es i nil).h1 (get_or es j nil).h1) (eqb (get_or es i nil).h2 (get_or es j nil).h2) h)
 
--- of the edges before i, those from `bound` on have another triple, and `at` leads to the last below that has the first vertex
-pub record Walked (es : List Triple) (i bound at : ℕ) : Type 0 where
-  pub leads : at ≡ latest (same1 es i) bound
-  pub apart : (j : ℕ) → bound ≤ j → j < i → same_triple (get_or es i nil) (get_or es j nil) ≡ false
+-- two edges have one triple
+abbrev pub alike_edges : Edge → Edge → Bool
+alike_edges e f = same_triple (of_tuple (e.h0, e.h1, e.h2)) (of_tuple (f.h0, f.h1, f.h2))
 
 module _ (es : List Triple) (edges : List Edge) (i : ℕ) (l : i < length es) (h : Edges es edges) where
-  pub walk_begins : Walked es i i (link edges i).next1
-  walk_begins = record { leads = (h i l).next1; apart = λ j a b. absurd (omega arith) }
+  same_rows : (j : ℕ) → j < i → alike_edges (link edges i) (link edges j) ≡ same_triple (get_or es i nil) (get_or es j nil)
+  same_rows j m =
+      let x = h i l in
+      let y = h j (omega arith) in
+      λ k. eqb (x.h0 k) (y.h0 k) && (eqb (x.h1 k) (y.h1 k) && eqb (x.h2 k) (y.h2 k))
 
-  module _ (bound at : ℕ) (w : Walked es i bound at) where
-    pub walk_ends : bound ≤ i → (0 < at → at ≤ bound → ⊥) → (j : ℕ) → j < i → same_triple (get_or es i nil) (get_or es j nil) ≡ false
-    walk_ends b stop j m = elim (cases_lt j bound) [
-      | inl q ↦ elim (cases_lt 0 at) [
-        | inl p ↦ absurd (stop p (omega (arith, w.leads, latest_le (same1 es i) bound)))
-        | inr p ↦ apart_first es i j (latest_past (same1 es i) bound j (omega (arith, w.leads)) q)
-      ]
-      | inr q ↦ w.apart j q m
-    ]
+  abbrev met : List (ℕ × Edge)
+  met = rows_where (same1 es i) edges i
 
-    module _ (p : 0 < at) (q : at ≤ bound) (b : bound ≤ i) where
-      there : same1 es i (at - 1) ≡ true
-      there = latest_passes (same1 es i) bound (at - 1) (sym w.leads ∙ omega arith)
+  abbrev Finds : List (ℕ × Edge) → Bool → Type 0
+  Finds xs t = MatchBool t ((k : ℕ) × (k < length xs) × HoldsAt (λ p. alike_edges (link edges i) p.1 ≡ true) xs k) (AllWithin (λ p. alike_edges (link edges i) p.1 ≡ false) xs 0 (length xs))
 
-      first_same : (get_or es i nil).h1 ≡ (get_or es (at - 1) nil).h1
-      first_same = eqb-true (get_or es i nil).h1 (get_or es (at - 1) nil).h1 there
+  repeats_is : (t : Bool) → Finds met t → Repeats es i t
+  repeats_is true f =
+      let q = listed_passes (same1 es i) edges i f.0 f.1 in
+      (q.0, q.1, sym (same_rows q.0 q.1) ∙ sym (ap (λ (p : ℕ × Edge). alike_edges (link edges i) p.1) (q.3 (0, link edges 0))) ∙ f.2 (0, link edges 0))
+  repeats_is false f = λ j m. elim (cases_Bool (same1 es i j)) [
+    | inl e ↦
+        let q = passing_listed (same1 es i) edges i j m e in
+        sym (same_rows j m) ∙ sym (ap (λ (p : ℕ × Edge). alike_edges (link edges i) p.1) (q.2 (0, link edges 0))) ∙ f q.0 (0, link edges 0) (omega arith) q.1
+    | inr e ↦ apart_first es i j e
+  ]
 
-      same_rows : same_triple (of_tuple ((link edges i).h0, (link edges i).h1, (link edges i).h2)) (of_tuple ((link edges (at - 1)).h0, (link edges (at - 1)).h1, (link edges (at - 1)).h2)) ≡ same_triple (get_or es i nil) (get_or es (at - 1) nil)
-      same_rows =
-          let x = h i l in
-          let y = h (at - 1) (omega arith) in
-          λ k. eqb (x.h0 k) (y.h0 k) && (eqb (x.h1 k) (y.h1 k) && eqb (x.h2 k) (y.h2 k))
+  -- what a walk over the edges before i finds
+  pub repeats_from : i < length edges → (before : List Edge) (at : ℕ) (low : Bool) → (before ≡ take (i - 0) edges) × (at ≡ (link edges i).next1) × (low ≡ true) → (t : Bool) → Finds (walk low before at) t → Repeats es i t
+  repeats_from there before at low starts t f =
+      let z : i - 0 ≡ i = omega arith in
+      let long : length (take i edges) ≡ i = length-take-le i edges (omega arith) in
+      let is : walk low before at ≡ met =
+      ap (λ xs. walk low xs at) starts.0 ∙ ap (λ k. walk low (take k edges) at) z ∙ ap (λ a. walk low (take i edges) a) starts.1 ∙ ap (λ b. walk b (take i edges) (link edges i).next1) starts.2 ∙
+      ap (λ k. walk_below true (take i edges) k (link edges i).next1) long ∙ walk_taken true edges i i (link edges i).next1 (omega arith) ∙ walk_same es edges h i l in
+      repeats_is t (subst (λ xs. Finds xs t) is f)
 
-      pub walk_finds : (t : Bool) → t ≡ same_triple (of_tuple ((link edges i).h0, (link edges i).h1, (link edges i).h2)) (of_tuple ((link edges (at - 1)).h0, (link edges (at - 1)).h1, (link edges (at - 1)).h2)) → t ≡ true → Repeats es i true
-      walk_finds t e f = (at - 1, omega arith, sym (e ∙ same_rows) ∙ f)
+-- the edges that are tried one after the other
+module _ (edges : List Edge) where
+  abbrev pub Told : Bool → ℕ → Type 0
+  Told t i = (es : List Triple) → i < length es → Edges es edges → Repeats es i t
 
-      pub walk_goes : (t : Bool) → t ≡ same_triple (of_tuple ((link edges i).h0, (link edges i).h1, (link edges i).h2)) (of_tuple ((link edges (at - 1)).h0, (link edges (at - 1)).h1, (link edges (at - 1)).h2)) → t ≡ false → Walked es i (at - 1) (link edges (at - 1)).next1
-      walk_goes t e f = record {
-        leads = (h (at - 1) (omega arith)).next1 ∙ latest_same (same1 es (at - 1)) (same1 es i) (at - 1) (λ j m. λ k. eqb (first_same_back k) (get_or es j nil).h1);
-        apart = λ j m o. elim (cases_eq j (at - 1)) [
-          | inl q ↦ ap (λ x. same_triple (get_or es i nil) (get_or es x nil)) q ∙ sym (e ∙ same_rows) ∙ f
-          | inr n ↦ elim (cases_lt j bound) [
-            | inl z ↦ apart_first es i j (latest_past (same1 es i) bound j (omega (arith, w.leads)) z)
-            | inr z ↦ w.apart j z o
-          ]
-        ];
-      }
-        where
-          first_same_back : (get_or es (at - 1) nil).h1 ≡ (get_or es i nil).h1
-          first_same_back = sym first_same
+  module _ (es : List Triple) (n : ℕ) (long : length es ≡ n) (h : Edges es edges) where
+    at_turn : (i : ℕ) → i < n → get_or (range_with_len 0 n) i 0 ≡ i
+    at_turn i l = get_or-range_with_len 0 n i 0 l ∙ omega arith
+
+    pub clashes_is : (t : Bool) → MatchBool t ((k : ℕ) × (k < length (range_with_len 0 n)) × HoldsAt (Told true) (range_with_len 0 n) k) (AllWithin (Told false) (range_with_len 0 n) 0 (length (range_with_len 0 n))) → t ≡ clashes es
+    clashes_is true f =
+        let l : f.0 < n = omega (arith, f.1, length-range_with_len 0 n) in
+        let p = subst (Told true) (at_turn f.0 l) (f.2 0) es (omega arith) h in
+        sym (clash_at es f.0 p.0 p.1 (omega arith) p.2)
+    clashes_is false f = sym (clash_none es (λ i j a b. subst (Told false) (at_turn i (omega arith)) (f i 0 (omega arith) (omega (arith, length-range_with_len 0 n))) es b h j a))

@@ -1,7 +1,7 @@
 -- The triples of the rows, as they are hashed one by one.
 use Rattle.std.proofs.Common.{◌≡◌, ℕ, ◌+◌, ◌*◌, ◌<◌, ◌≤◌, true, ◌&&◌, leb, List, [], ◌∷◌, ◌++◌, length, get_or, take, drop, set, Some, None, sym, ap, ◌∙◌, subst, mod-lt, arith}
 use Rattle.std.proofs.lemmas.Bool.{leb-true, le-leb, and_parts, and_from, cond-true}
-use Rattle.std.proofs.lemmas.List.{length-map, length-take-le, map_more}
+use Rattle.std.proofs.lemmas.List.{length-map, length-take, length-take-le, get_or-take, map_more}
 use Rattle.names.specs.Spellings.{in_range}
 use Rattle.hashing.specs.Triples.{Triple, sum, triple, members, hashed}
 use Rattle.graph.specs.declared.rows.Row.{Row}
@@ -53,34 +53,44 @@ module _ {N : Type 0} (spell : N → List ℕ) (t : List ℕ) (n r : ℕ) (rows 
   pub triples_long : i ≤ length rows → length (row_triples spell t n r (take i rows)) ≡ i
   triples_long l = length-map (take i rows) (row_triple spell t n r) ∙ length-take-le i rows l
 
--- a turn of the mapping: row i, whose name has the three numbers u, becomes edge i; d is any row
+-- an element of the first k
+pub taken_at : {X : Type 0} (xs : List X) (k i : ℕ) (x : X) → i < length (take k xs) → x ≡ get_or (take k xs) i x → (i < k) × (i < length xs) × (x ≡ get_or xs i x)
+taken_at xs k i x l e =
+    let a : i < k = omega (arith, length-take k xs) in
+    (a, omega (arith, length-take k xs), e ∙ get_or-take k xs i x a)
+
+-- what a turn of the mapping needs and leaves: the name of row i has the three numbers u, and the triples `before` become `after`
+pub record Turn (before after : List Triple) (u : ℕ × ℕ × ℕ) (i r : ℕ) (edges : List Edge) (vs : List Vertex) : Type 0 where
+  pub halves : Halves r (of_tuple u)
+  pub degree_first : (row vs u.1).degree ≤ i
+  pub degree_second : (row vs u.2).degree ≤ i
+  pub graph : 2 * r ≤ length vs → i < length edges → (edges' : List Edge) (vs' : List Vertex) → edges' ≡ set edges i (edge_at i (of_tuple u) vs) → vs' ≡ twice_at i (of_tuple u) vs → Graph after r edges' vs'
+  pub past : (vs' : List Vertex) → vs' ≡ twice_at i (of_tuple u) vs → drop (2 * r) vs' ≡ drop (2 * r) vs
+
 module _ {N : Type 0} (spell : N → List ℕ) (from_1 : (x : N) → 1 ≤ length (spell x)) (to_16 : (x : N) → length (spell x) ≤ 16)
-    (t : List ℕ) (n r : ℕ) (rows : List (Row N)) (i : ℕ) (d : Row N) (u : ℕ × ℕ × ℕ)
-    (lt : 12288 ≤ length t) (l : i < length rows) (e : Some u ≡ hashed t n r (spell (get_or rows i d).name)) (some : 1 ≤ r)
+    (t : List ℕ) (n r : ℕ) (rows : List (Row N)) (i : ℕ) (x : Row N) (u : ℕ × ℕ × ℕ)
+    (lt : 12288 ≤ length t) (at : (i < length rows) × (x ≡ get_or rows i x)) (e : Some u ≡ hashed t n r (spell x.name)) (some : 1 ≤ r)
     (edges : List Edge) (vs : List Vertex) (g : Graph (row_triples spell t n r (take i rows)) r edges vs) where
-  abbrev es : List Triple
-  es = row_triples spell t n r (take i rows)
+  abbrev before : List Triple
+  before = row_triples spell t n r (take i rows)
 
-  abbrev es_more : List Triple
-  es_more = row_triples spell t n r (take (i + 1) rows)
+  is_triple : of_tuple u ≡ row_triple spell t n r x
+  is_triple = hashed_tuple t n r (spell x.name) lt (from_1 x.name) (to_16 x.name) u e
 
-  is_triple : of_tuple u ≡ row_triple spell t n r (get_or rows i d)
-  is_triple = let x = (get_or rows i d).name in hashed_tuple t n r (spell x) lt (from_1 x) (to_16 x) u e
+  halves : Halves r (of_tuple u)
+  halves = subst (Halves r) (sym is_triple) (triple_halves t n r (spell x.name) some)
 
-  pub turn_halves : Halves r (of_tuple u)
-  turn_halves = subst (Halves r) (sym is_triple) (triple_halves t n r (spell (get_or rows i d).name) some)
+  long : length before ≡ i
+  long = triples_long spell t n r rows i (omega (arith, at.0))
 
-  long : length es ≡ i
-  long = triples_long spell t n r rows i (omega arith)
+  more : before ++ of_tuple u ∷ [] ≡ row_triples spell t n r (take (i + 1) rows)
+  more = ap (λ y. before ++ y ∷ []) (is_triple ∙ ap (row_triple spell t n r) at.1) ∙ sym (map_more (row_triple spell t n r) rows i x at.0)
 
-  pub turn_degrees : ((row vs u.1).degree ≤ i) × ((row vs u.2).degree ≤ i)
-  turn_degrees = (degree_first es (of_tuple u) i r edges vs turn_halves long g, degree_second es (of_tuple u) i r edges vs turn_halves long g)
-
-  more : es ++ of_tuple u ∷ [] ≡ es_more
-  more = ap (λ y. es ++ y ∷ []) is_triple ∙ sym (map_more (row_triple spell t n r) rows i d l)
-
-  pub turn_graph : 2 * r ≤ length vs → i < length edges → (edges' : List Edge) (vs' : List Vertex) → edges' ≡ set edges i (edge_at i (of_tuple u) vs) → vs' ≡ twice_at i (of_tuple u) vs → Graph es_more r edges' vs'
-  turn_graph lv le edges' vs' a b = subst (λ ts. Graph ts r edges' vs') more (attached es (of_tuple u) i r edges vs turn_halves long g lv le edges' vs' a b)
-
-  pub turn_past : (vs' : List Vertex) → vs' ≡ twice_at i (of_tuple u) vs → drop (2 * r) vs' ≡ drop (2 * r) vs
-  turn_past vs' b = past_both es (of_tuple u) i r edges vs turn_halves long g vs' b
+  pub turn : Turn before (row_triples spell t n r (take (i + 1) rows)) u i r edges vs
+  turn = record {
+    halves = halves;
+    degree_first = degree_first before (of_tuple u) i r edges vs halves long g;
+    degree_second = degree_second before (of_tuple u) i r edges vs halves long g;
+    graph = λ lv le edges' vs' a b. subst (λ ts. Graph ts r edges' vs') more (attached before (of_tuple u) i r edges vs halves long g lv le edges' vs' a b);
+    past = λ vs' b. past_both before (of_tuple u) i r edges vs halves long g vs' b;
+  }

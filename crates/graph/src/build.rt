@@ -3,13 +3,17 @@ ghost use Rattle.graph.specs.Chains.{bare, row, headed, of_tuple, twice_at, edge
 ghost use Rattle.graph.specs.Mapping.{row_triples, map_fits, MapRefused, MapWritten};
 
 use super::rows::{Edge, Place, Row, Vertex};
-use hashing::sizes::Sizes;
+use hashing::sizes::{MOST_NAMES, Sizes};
 use hashing::tables::TABLE_NUMBERS;
 use hashing::triples::triple_of;
 use names::kind::Kind;
 
-/// The most names that are mapped.
-const MOST_NAMES: usize = 1024;
+const BARE: Vertex = Vertex {
+    first: 0,
+    degree: 0,
+    value: 0,
+    place: Place::Unseen,
+};
 
 // Leaves the first m vertices without edges.
 fn clear(vertices: &mut [Vertex], m: usize)
@@ -17,14 +21,7 @@ fn clear(vertices: &mut [Vertex], m: usize)
     ensures cleared { (v : ℕ) → v < m → row vertices.new v ≡ bare }
     ensures rest { drop m vertices.new ≡ drop m vertices.old }
 {
-    for v in 0..m {
-        vertices[v] = Vertex {
-            first: 0,
-            degree: 0,
-            value: 0,
-            place: Place::Unseen,
-        };
-    }
+    vertices[0..m].fill(BARE);
 }
 
 // Puts the edge that `upto` leads to before the others at v, and answers the link to those.
@@ -33,14 +30,11 @@ fn attach(vertices: &mut [Vertex], v: usize, upto: u16) -> u16
     ensures others { result ≡ (row vertices.old v).first }
     ensures leads { vertices.new ≡ slice_set vertices.old v (headed upto (row vertices.old v)) }
 {
-    let old = vertices[v];
-    vertices[v] = Vertex {
-        first: upto,
-        degree: old.degree + 1,
-        value: old.value,
-        place: old.place,
-    };
-    old.first
+    let x = &mut vertices[v];
+    let others = x.first;
+    x.first = upto;
+    x.degree += 1;
+    others
 }
 
 // Writes edge i, of this triple, and puts it before the others at its two vertices.
@@ -63,16 +57,23 @@ fn attach_edge(edges: &mut [Edge], vertices: &mut [Vertex], i: usize, triple: (u
     };
 }
 
-// Whether lists of these lengths have the places for a mapping.
-fn fits(count: usize, r: usize, rows: usize, tables: usize, edges: usize, vertices: usize) -> bool
+// Whether these lists have the places for a mapping.
+fn fits<N: Kind>(
+    count: usize,
+    r: usize,
+    rows: &[Row<N>],
+    tables: &[u32],
+    edges: &[Edge],
+    vertices: &[Vertex],
+) -> bool
     requires { r ≤ 1024 }
-    ensures { result ≡ map_fits count r rows tables edges vertices }
+    ensures { result ≡ map_fits count r (length rows.now) (length tables.now) (length edges.now) (length vertices.now) }
 {
     count <= MOST_NAMES
-        && count <= rows
-        && TABLE_NUMBERS <= tables
-        && count <= edges
-        && 2 * r <= vertices
+        && count <= rows.len()
+        && TABLE_NUMBERS <= tables.len()
+        && count <= edges.len()
+        && 2 * r <= vertices.len()
 }
 
 /// Writes the graph of the names in the first `count` rows: the edge of each name's triple, and the
@@ -89,19 +90,12 @@ pub fn map_names<N: Kind>(
     ensures { MatchOption result (MapRefused (map_fits count sizes.r (length rows.now) (length tables.now) (length edges.old) (length vertices.old)) edges.old edges.new vertices.old vertices.new) (λ _. MapWritten (map_fits count sizes.r (length rows.now) (length tables.now) (length edges.old) (length vertices.old)) (row_triples N.spelling tables.now sizes.n sizes.r (take count rows.now)) count sizes.r edges.old edges.new vertices.old vertices.new) }
 {
     let r = sizes.r() as usize;
-    if !fits(
-        count,
-        r,
-        rows.len(),
-        tables.len(),
-        edges.len(),
-        vertices.len(),
-    ) {
+    if !fits(count, r, rows, tables, edges, vertices) {
         return None;
     }
     clear(vertices, 2 * r);
-    for i in 0..count {
-        let triple = triple_of(tables, sizes, &rows[i].name)?;
+    for (i, row) in rows[0..count].iter().enumerate() {
+        let triple = triple_of(tables, sizes, &row.name)?;
         attach_edge(edges, vertices, i, triple);
     }
     Some(())

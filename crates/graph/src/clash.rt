@@ -3,6 +3,7 @@ ghost use Rattle.hashing.specs.Triples.{Triple};
 ghost use Rattle.runs.specs.Runs.{same_triple};
 ghost use Rattle.graph.specs.Chains.{of_tuple, Edges, Repeats, clashes};
 
+use super::chain::Chain;
 use super::rows::Edge;
 
 fn alike(a: (u16, u16, u16), b: (u16, u16, u16)) -> bool
@@ -17,17 +18,10 @@ fn is_repeated(edges: &[Edge], i: usize) -> bool
     ensures { (es : List Triple) → i < length es → Edges es edges.now → Repeats es i result }
 {
     let e = edges[i];
-    let mut bound = i;
-    let mut at = e.next1 as usize;
-    while 0 < at && at <= bound {
-        bound = at - 1;
-        let f = edges[bound];
-        if alike((e.h0, e.h1, e.h2), (f.h0, f.h1, f.h2)) {
-            return true;
-        }
-        at = f.next1 as usize;
-    }
-    false
+    Chain::new(&edges[0..i], e.next1, true).any(|(_, f)| alike(
+        (e.h0, e.h1, e.h2),
+        (f.h0, f.h1, f.h2),
+    ))
 }
 
 // Whether two of the first n edges have equal triples.
@@ -35,12 +29,7 @@ fn any_repeated(edges: &[Edge], n: usize) -> bool
     requires { n ≤ length edges.now }
     ensures { (es : List Triple) → length es ≡ n → Edges es edges.now → result ≡ clashes es }
 {
-    for i in 0..n {
-        if is_repeated(edges, i) {
-            return true;
-        }
-    }
-    false
+    (0..n).any(|i| is_repeated(edges, i))
 }
 
 /// Whether two of the first n edges have equal triples, which is a clash. None exactly if there are

@@ -3,5 +3,6 @@
 #![tactic(auto)]
 
 pub mod build;
+pub mod chain;
 pub mod clash;
 pub mod rows;

@@ -4,6 +4,12 @@ ghost use Rattle.hashing.specs.Faults.{sizes_fault};
 
 use crate::fault::HashFault;
 
+/// The most names of a pressing.
+pub const MOST_NAMES: usize = 1024;
+
+/// The most vertices on each side of its graph.
+pub const MOST_ON_A_SIDE: usize = 1024;
+
 /// The number n of names, and the number r of vertices on each side of the graph,
 /// both from 1 to 1,024.
 #[derive(Clone, Copy)]
@@ -21,13 +27,13 @@ impl Sizes {
     pub fn new(n: usize, r: u16) -> Result<Sizes, HashFault>
         ensures { Answered (sizes_fault n r) (λ x. (x.n ≡ n) × (x.r ≡ r)) result }
     {
-        if n > 1024 {
+        if n > MOST_NAMES {
             return Err(HashFault::TooManyNames);
         }
         if n < 1 {
             return Err(HashFault::NoName);
         }
-        if !(1..=1024).contains(&r) {
+        if !(1..=MOST_ON_A_SIDE).contains(&usize::from(r)) {
             return Err(HashFault::VertexCount);
         }
         Ok(Sizes { n: n as u16, r })

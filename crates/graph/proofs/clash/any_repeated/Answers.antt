@@ -1,11 +1,13 @@
-use Rattle.std.proofs.Common.{sym, arith}
-use Rattle.graph.proofs.Clashing.{clash_at, clash_none}
+use Rattle.std.proofs.Common.{◌≡◌, ◌-◌, true, false, refl, arith, rules, tests}
+use Rattle.std.proofs.lemmas.Iterator.{cases_from_any, YieldsList-from_range}
+use Rattle.graph.proofs.Clashing.{Told, clashes_is}
 use Rattle.graph.proofs.clash.any_repeated.Goals as goal
 
-pub returns-then-is_repeated : goal.returns-then-is_repeated
-returns-then-is_repeated c = λ es e h.
-    let p = c.if-is_repeated.ensures es (omega arith) h in
-    sym (clash_at es c.loop-i.i p.0 p.1 (omega arith) p.2)
-
 pub returns : goal.returns
-returns c = λ es e h. sym (clash_none es (λ i j a b. c.loop-i.invariant es e h i j a (omega arith)))
+returns c =
+    let edges = c.args.edges.now in
+    let n = c.args.n in
+    let z : n - 0 ≡ n = omega arith in
+    let all = YieldsList-from_range 0 n n refl z in
+    λ es long h. clashes_is edges es n long h c.any.result
+    (cases_from_any c.any.new.self _ c.any.result (Told edges true) (Told edges false) c.any.ensures.ran all (λ x q k. search (rules, tests)) (λ x q k. search (rules, tests)))
