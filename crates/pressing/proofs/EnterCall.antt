@@ -17,11 +17,11 @@ use Rattle.runs.specs.Runs.{ample, Run, enter, reopen, is, rank, count, spelling
 use Rattle.pressing.specs.declared.press.Pressing.{Pressing}
 use Rattle.pressing.specs.declared.stage.Event.TheVariants.{Enter, Reopen}
 use Rattle.pressing.specs.Memory.{Memory, lent, with_row}
-use Rattle.pressing.specs.Stages.{belongs, next_stage}
+use Rattle.pressing.specs.Stages.{belongs, next_stage, begun}
 use Rattle.pressing.specs.Left.{as_row, Kept, Held, Left}
 use Rattle.pressing.specs.Calls.{enter_gate, reopen_gate, EnterDone, ReopenDone}
 use Rattle.pressing.proofs.Room.{ample_all}
-use Rattle.pressing.proofs.Steps.{stops, goes, first_behind, or_none, stage_passed, stage_refused, by_gate, by_lists, by_acceptance}
+use Rattle.pressing.proofs.Steps.{stops, goes, first_behind, or_none, stage_passed, stage_refused, passed_by, barred_by, by_gate, by_lists, by_acceptance}
 
 -- what the pressing keeps beside its stage is as it was
 pub record Moved {N : Type 0} (p p' : Pressing N) : Type 0 where
@@ -68,77 +68,76 @@ module _ {N : Type 0} (spelling : N → List ℕ) (x : N) (v : ℕ) (p : Pressin
   refuses : (f : PressFault) → enter_gate p l ≡ Some f → EnterDone spelling x v p l (Err f) p l
   refuses f e = record { done = by_gate spelling (enter (lent l) x v) entered (enter_gate p l) (Some SpellingEntered) p l tail split f e; lists = refl }
 
-  pub wrong : (r : Result (Unit {0}) PressFault) {f : PressFault} → next_stage Enter p.stage ≡ Err f → r ≡ Err f → EnterDone spelling x v p l r p l
-  wrong r {f} e q =
-      let s = stage_refused Enter p.stage f e in
-      subst (λ r. EnterDone spelling x v p l r p l) (sym q) (refuses f (stops (belongs Enter p.stage) WrongStage of_lengths s.0 ∙ ap (λ g. Some g) (sym s.1)))
+  pub barred : (r : Result (Unit {0}) PressFault) {f : PressFault} → begun Enter p.stage (lent l) ≡ Err f → r ≡ Err f → EnterDone spelling x v p l r p l
+  barred r {f} e q =
+      let s = barred_by Enter p.stage (lent l) of_count f e in
+      subst (λ r. EnterDone spelling x v p l r p l) (sym q) (refuses f s.0)
 
-  module _ {t : Stage} (e : next_stage Enter p.stage ≡ Ok t) where
+  module _ {t : Stage} (e : begun Enter p.stage (lent l) ≡ Ok t) where
     on_stage : belongs Enter p.stage ≡ true
-    on_stage = (stage_passed Enter p.stage t e).belonged
+    on_stage = (passed_by Enter p.stage (lent l) t e).belonged
 
-    pub short : false ≡ ample (lent l) → EnterDone spelling x v p l (Err ShortList) p l
-    short h = refuses ShortList (goes (belongs Enter p.stage) WrongStage of_lengths on_stage ∙ stops (ample (lent l)) ShortList of_count (sym h))
+    enough : ample (lent l) ≡ true
+    enough = (passed_by Enter p.stage (lent l) t e).long
 
-    module _ (h : true ≡ ample (lent l)) where
-      pub full : 1024 ≤ p.count → EnterDone spelling x v p l (Err TooManyNames) p l
-      full c = refuses TooManyNames (goes (belongs Enter p.stage) WrongStage of_lengths on_stage ∙ goes (ample (lent l)) ShortList of_count (sym h) ∙ stops (ltb p.count 1024) TooManyNames [] (le-ltb p.count 1024 c))
+    pub full : 1024 ≤ p.count → EnterDone spelling x v p l (Err TooManyNames) p l
+    full c = refuses TooManyNames (goes (belongs Enter p.stage) WrongStage of_lengths on_stage ∙ goes (ample (lent l)) ShortList of_count enough ∙ stops (ltb p.count 1024) TooManyNames [] (le-ltb p.count 1024 c))
 
-      pub within : p.count < 1024 → p.count < length l.rows
-      within c = omega (arith, (ample_all (lent l) (sym h)).rows)
+    pub within : p.count < 1024 → p.count < length l.rows
+    within c = omega (arith, (ample_all (lent l) enough).rows)
 
-      module _ (c : p.count < 1024) where
-        gate : enter_gate p l ≡ None
-        gate = goes (belongs Enter p.stage) WrongStage of_lengths on_stage ∙ goes (ample (lent l)) ShortList of_count (sym h) ∙ goes (ltb p.count 1024) TooManyNames [] (lt-ltb p.count 1024 c)
+    module _ (c : p.count < 1024) where
+      gate : enter_gate p l ≡ None
+      gate = goes (belongs Enter p.stage) WrongStage of_lengths on_stage ∙ goes (ample (lent l)) ShortList of_count enough ∙ goes (ltb p.count 1024) TooManyNames [] (lt-ltb p.count 1024 c)
 
-        abbrev looked : Bool
-        looked = has bytes_eq (spelling x) (map (λ (y : Row N). spelling y.name) (take p.count l.rows))
+      abbrev looked : Bool
+      looked = has bytes_eq (spelling x) (map (λ (y : Row N). spelling y.name) (take p.count l.rows))
 
-        in_rows : (m : Run N) → Left spelling m p l → take p.count l.rows ≡ map as_row m.names
-        in_rows m k = ap (λ n. take n l.rows) k.kept.count ∙ (k.held (sym h)).names
+      in_rows : (m : Run N) → Left spelling m p l → take p.count l.rows ≡ map as_row m.names
+      in_rows m k = ap (λ n. take n l.rows) k.kept.count ∙ (k.held enough).names
 
-        same_look : (m : Run N) → Left spelling m p l → again m ≡ looked
-        same_look m k = ap (has bytes_eq (spelling x)) (sym (map-map (λ (y : Row N). spelling y.name) as_row m.names) ∙ ap (map (λ (y : Row N). spelling y.name)) (sym (in_rows m k)))
+      same_look : (m : Run N) → Left spelling m p l → again m ≡ looked
+      same_look m k = ap (has bytes_eq (spelling x)) (sym (map-map (λ (y : Row N). spelling y.name) as_row m.names) ∙ ap (map (λ (y : Row N). spelling y.name)) (sym (in_rows m k)))
 
-        pub twice : true ≡ looked → EnterDone spelling x v p l (Err SpellingEntered) p l
-        twice t = record {
-          done = by_lists spelling (enter (lent l) x v) entered (enter_gate p l) (Some SpellingEntered) p l tail split SpellingEntered l gate refl refl
-              (λ m k. (stops (not (again m)) SpellingEntered [] (not_from_true (again m) (same_look m k ∙ sym t)), k.held));
-          lists = refl;
+      pub twice : true ≡ looked → EnterDone spelling x v p l (Err SpellingEntered) p l
+      twice t = record {
+        done = by_lists spelling (enter (lent l) x v) entered (enter_gate p l) (Some SpellingEntered) p l tail split SpellingEntered l gate refl refl
+            (λ m k. (stops (not (again m)) SpellingEntered [] (not_from_true (again m) (same_look m k ∙ sym t)), k.held));
+        lists = refl;
+      }
+
+      module _ (small : v < 65536) (p' : Pressing N) (staged : p'.stage ≡ t) (counted : p'.count ≡ p.count + 1) (moved : Moved p p') where
+        abbrev written : Row N
+        written = record { name = x; setting = v }
+
+        longer : (m : Run N) → Left spelling m p l → count m + 1 ≡ p.count + 1
+        longer m k = ap (λ n. n + 1) (sym k.kept.count)
+
+        kept : (m : Run N) → Left spelling m p l → Kept spelling (with_name m x v) p'
+        kept m k = record {
+          stage = staged ∙ (passed_by Enter p.stage (lent l) t e).led;
+          count = counted ∙ sym (length_push m.names (x, v) ∙ longer m k);
+          r = moved.r ∙ k.kept.r;
+          seed = moved.seed ∙ k.kept.seed;
+          level = moved.level ∙ k.kept.level;
+          levels = λ b. absurd (omega arith);
         }
 
-        module _ (small : v < 65536) (p' : Pressing N) (staged : p'.stage ≡ t) (counted : p'.count ≡ p.count + 1) (moved : Moved p p') where
-          abbrev written : Row N
-          written = record { name = x; setting = v }
+        held : (m : Run N) → Left spelling m p l → Held spelling (with_name m x v) (with_row p.count written l)
+        held m k = held_open spelling (with_name m x v) refl (with_row p.count written l)
+            (ap (λ n. take n (set l.rows p.count written)) (length_push m.names (x, v) ∙ longer m k)
+            ∙ take_more_set l.rows p.count written (within c)
+            ∙ ap (λ (ys : List (Row N)). ys ++ written ∷ []) (in_rows m k)
+            ∙ sym (map_push as_row m.names (x, v)))
 
-          longer : (m : Run N) → Left spelling m p l → count m + 1 ≡ p.count + 1
-          longer m k = ap (λ n. n + 1) (sym k.kept.count)
-
-          kept : (m : Run N) → Left spelling m p l → Kept spelling (with_name m x v) p'
-          kept m k = record {
-            stage = staged ∙ (stage_passed Enter p.stage t e).led;
-            count = counted ∙ sym (length_push m.names (x, v) ∙ longer m k);
-            r = moved.r ∙ k.kept.r;
-            seed = moved.seed ∙ k.kept.seed;
-            level = moved.level ∙ k.kept.level;
-            levels = λ b. absurd (omega arith);
-          }
-
-          held : (m : Run N) → Left spelling m p l → Held spelling (with_name m x v) (with_row p.count written l)
-          held m k = held_open spelling (with_name m x v) refl (with_row p.count written l)
-              (ap (λ n. take n (set l.rows p.count written)) (length_push m.names (x, v) ∙ longer m k)
-              ∙ take_more_set l.rows p.count written (within c)
-              ∙ ap (λ (ys : List (Row N)). ys ++ written ∷ []) (in_rows m k)
-              ∙ sym (map_push as_row m.names (x, v)))
-
-          pub accepted : false ≡ looked → EnterDone spelling x v p l (Ok tt) p' (with_row p.count written l)
-          accepted f = record {
-            done = by_acceptance spelling (enter (lent l) x v) entered (enter_gate p l) (Some SpellingEntered) p l tail split tt p' (with_row p.count written l) gate
-                (ap (λ n. record { rows = n; tables = length l.tables; edges = length l.edges; vertices = length l.vertices; heap = length l.heap; ordered = length l.ordered; slots = length l.slots }) (length-set l.rows p.count written))
-                small
-                (λ m k. (goes (not (again m)) SpellingEntered [] (not_from_false (again m) (same_look m k ∙ sym f)), refl, kept m k, λ _. held m k));
-            lists = refl;
-          }
+        pub accepted : false ≡ looked → EnterDone spelling x v p l (Ok tt) p' (with_row p.count written l)
+        accepted f = record {
+          done = by_acceptance spelling (enter (lent l) x v) entered (enter_gate p l) (Some SpellingEntered) p l tail split tt p' (with_row p.count written l) gate
+              (ap (λ n. record { rows = n; tables = length l.tables; edges = length l.edges; vertices = length l.vertices; heap = length l.heap; ordered = length l.ordered; slots = length l.slots }) (length-set l.rows p.count written))
+              small
+              (λ m k. (goes (not (again m)) SpellingEntered [] (not_from_false (again m) (same_look m k ∙ sym f)), refl, kept m k, λ _. held m k));
+          lists = refl;
+        }
 
 -- reopening
 module _ {N : Type 0} (spelling : N → List ℕ) (p : Pressing N) where

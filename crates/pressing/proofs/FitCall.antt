@@ -22,11 +22,11 @@ use Rattle.pressing.specs.declared.answer.Fit.{Fit as FitAnswer}
 use Rattle.pressing.specs.declared.press.Pressing.{Pressing}
 use Rattle.pressing.specs.declared.stage.Event.TheVariants.{Fit}
 use Rattle.pressing.specs.Memory.{Memory, memory, lent}
-use Rattle.pressing.specs.Stages.{next_stage}
+use Rattle.pressing.specs.Stages.{begun}
 use Rattle.pressing.specs.Left.{IsRun, Kept, Held, Left}
 use Rattle.pressing.specs.Calls.{fit_gate, fitted, FitWrote, FitDone}
 use Rattle.pressing.proofs.Room.{ample_all, same_test, first_found, first_passes}
-use Rattle.pressing.proofs.Steps.{stops, goes, first_behind, stage_passed, stage_refused, run_stands, by_gate, by_lists, by_acceptance}
+use Rattle.pressing.proofs.Steps.{stops, goes, first_behind, passed_by, barred_by, run_stands, by_gate, by_lists, by_acceptance}
 
 -- lengths that are long enough for the fit of a level
 all_fit : (n r level edges vertices ordered slots : ℕ) → 1 ≤ n → n ≤ 1024 → n ≤ edges → r ≤ 1024 → 2 * r ≤ vertices → level < ordered → n ≤ slots → level_fits n r level edges vertices ordered slots ≡ true
@@ -131,17 +131,17 @@ module _ {N : Type 0} (spelling : N → List ℕ) (w : Meaning) (p : Pressing N)
   refuses : (f : PressFault) → gate ≡ Some f → FitDone spelling w p l (Err f) p l
   refuses f e = record { done = by_gate spelling (fit (lent l) w) fitted gate unfit p l tail split f e; lists = refl }
 
-  pub wrong : (r : Result FitAnswer PressFault) (last : Bool) {f : PressFault} → next_stage (Fit last) p.stage ≡ Err f → r ≡ Err f → FitDone spelling w p l r p l
-  wrong r last {f} e q =
-      let s = stage_refused (Fit last) p.stage f e in
-      subst (λ r. FitDone spelling w p l r p l) (sym q) (refuses f (stops (is p.stage Ordered) WrongStage of_lengths s.0 ∙ ap (λ g. Some g) (sym s.1)))
+  pub barred : (r : Result FitAnswer PressFault) (last : Bool) {f : PressFault} → begun (Fit last) p.stage (lent l) ≡ Err f → r ≡ Err f → FitDone spelling w p l r p l
+  barred r last {f} e q =
+      let s = barred_by (Fit last) p.stage (lent l) of_size f e in
+      subst (λ r. FitDone spelling w p l r p l) (sym q) (refuses f s.0)
 
-  module _ (last : Bool) {t : Stage} (e : next_stage (Fit last) p.stage ≡ Ok t) where
+  module _ (last : Bool) {t : Stage} (e : begun (Fit last) p.stage (lent l) ≡ Ok t) where
     on_stage : is p.stage Ordered ≡ true
-    on_stage = (stage_passed (Fit last) p.stage t e).belonged
+    on_stage = (passed_by (Fit last) p.stage (lent l) t e).belonged
 
-    pub short : false ≡ ample (lent l) → FitDone spelling w p l (Err ShortList) p l
-    short h = refuses ShortList (goes (is p.stage Ordered) WrongStage of_lengths on_stage ∙ stops (ample (lent l)) ShortList of_size (sym h))
+    enough : ample (lent l) ≡ true
+    enough = (passed_by (Fit last) p.stage (lent l) t e).long
 
     at_ordered : (m : Run N) → Kept spelling m p → m.stage ≡ Ordered
     at_ordered m k = is_true m.stage Ordered (ap (λ s. is s Ordered) (sym k.stage) ∙ on_stage)
@@ -149,133 +149,132 @@ module _ {N : Type 0} (spelling : N → List ℕ) (w : Meaning) (p : Pressing N)
     levels_are : (m : Run N) → Kept spelling m p → p.levels ≡ length (vertex_order spelling m)
     levels_are m k = k.levels (omega (arith, ap rank (at_ordered m k)))
 
-    module _ (h : true ≡ ample (lent l)) where
-      pub other_size : (w.size ≡ p.count → ⊥) → FitDone spelling w p l (Err WaySize) p l
-      other_size ne = refuses WaySize (
-          goes (is p.stage Ordered) WrongStage of_lengths on_stage ∙ goes (ample (lent l)) ShortList of_size (sym h) ∙ stops (eqb w.size p.count) WaySize [] (ne_eqb w.size p.count ne)
-          )
+    pub other_size : (w.size ≡ p.count → ⊥) → FitDone spelling w p l (Err WaySize) p l
+    other_size ne = refuses WaySize (
+        goes (is p.stage Ordered) WrongStage of_lengths on_stage ∙ goes (ample (lent l)) ShortList of_size enough ∙ stops (eqb w.size p.count) WaySize [] (ne_eqb w.size p.count ne)
+        )
 
-      module _ (sized : w.size ≡ p.count) where
-        open_gate : gate ≡ None
-        open_gate =
-            goes (is p.stage Ordered) WrongStage of_lengths on_stage ∙ goes (ample (lent l)) ShortList of_size (sym h) ∙
-            goes (eqb w.size p.count) WaySize [] (eq-eqb w.size p.count sized)
+    module _ (sized : w.size ≡ p.count) where
+      open_gate : gate ≡ None
+      open_gate =
+          goes (is p.stage Ordered) WrongStage of_lengths on_stage ∙ goes (ample (lent l)) ShortList of_size enough ∙
+          goes (eqb w.size p.count) WaySize [] (eq-eqb w.size p.count sized)
 
-        -- no run leaves a pressing so
-        pub none_left : p.levels ≤ p.level → FitDone spelling w p l (Err (Unfit p.level)) p l
-        none_left b = record {
-          done = by_lists spelling (fit (lent l) w) fitted gate unfit p l tail split (Unfit p.level) l open_gate refl refl
-              (λ m k. absurd (omega (arith, (standing spelling m l k.run (at_ordered m k.kept)).2, levels_are m k.kept, k.kept.level)));
-          lists = refl;
-        }
+      -- no run leaves a pressing so
+      pub none_left : p.levels ≤ p.level → FitDone spelling w p l (Err (Unfit p.level)) p l
+      none_left b = record {
+        done = by_lists spelling (fit (lent l) w) fitted gate unfit p l tail split (Unfit p.level) l open_gate refl refl
+            (λ m k. absurd (omega (arith, (standing spelling m l k.run (at_ordered m k.kept)).2, levels_are m k.kept, k.kept.level)));
+        lists = refl;
+      }
 
-        module _ (b : p.level < p.levels) {r level : ℕ} (same_r : r ≡ p.r) (same_level : level ≡ p.level) (vertices' : List Vertex) (slots' : List (Option ℕ)) (o : Option (ℕ × ℕ)) where
-          abbrev l' : Memory N
-          l' = with_fit l vertices' slots'
+      module _ (b : p.level < p.levels) {r level : ℕ} (same_r : r ≡ p.r) (same_level : level ≡ p.level) (vertices' : List Vertex) (slots' : List (Option ℕ)) (o : Option (ℕ × ℕ)) where
+        abbrev l' : Memory N
+        l' = with_fit l vertices' slots'
 
-          -- what the fit of a level promises
-          abbrev FittedAt : ℕ → ℕ → ℕ → Type 0
-          FittedAt n r level =
-              (es : List Triple) (values filled : List ℕ) → level_fits n r level (length l.edges) (length l.vertices) (length l.ordered) (length l.slots) ≡ true → w.size ≡ n →
-              LevelHeld es r n values filled level l.edges l.vertices l.ordered l.slots → LevelFitted w es r n values filled level l.edges vertices' l.ordered slots' o
+        -- what the fit of a level promises
+        abbrev FittedAt : ℕ → ℕ → ℕ → Type 0
+        FittedAt n r level =
+            (es : List Triple) (values filled : List ℕ) → level_fits n r level (length l.edges) (length l.vertices) (length l.ordered) (length l.slots) ≡ true → w.size ≡ n →
+            LevelHeld es r n values filled level l.edges l.vertices l.ordered l.slots → LevelFitted w es r n values filled level l.edges vertices' l.ordered slots' o
 
-          abbrev Gave : ℕ × ℕ → Type 0
-          Gave x = LevelGiven p.count (2 * r) (get_or l.ordered level 0) x.0 l.vertices vertices' l.slots slots'
+        abbrev Gave : ℕ × ℕ → Type 0
+        Gave x = LevelGiven p.count (2 * r) (get_or l.ordered level 0) x.0 l.vertices vertices' l.slots slots'
 
-          abbrev Given : Type 0
-          Given = MatchOption o (Unchanged l.vertices vertices' l.slots slots') Gave
+        abbrev Given : Type 0
+        Given = MatchOption o (Unchanged l.vertices vertices' l.slots slots') Gave
 
-          module _ (told : FittedAt p.count r level) where
-            fits : (m : Run N) → Left spelling m p l → level_fits (count m) m.r m.level (length l.edges) (length l.vertices) (length l.ordered) (length l.slots) ≡ true
-            fits m k =
-                let room = ample_all (lent l) (sym h) in
-                let ranges = (standing spelling m l k.run (at_ordered m k.kept)).0 in
-                let few = (run_stands spelling m k.run).few in
-                all_fit (count m) m.r m.level (length l.edges) (length l.vertices) (length l.ordered) (length l.slots)
-                ranges.some_name few (omega (arith, room.edges)) ranges.few_vertices (omega (arith, room.vertices, ranges.few_vertices))
-                (omega (arith, room.ordered, k.kept.level, p.few_levels)) (omega (arith, room.slots))
+        module _ (told : FittedAt p.count r level) where
+          fits : (m : Run N) → Left spelling m p l → level_fits (count m) m.r m.level (length l.edges) (length l.vertices) (length l.ordered) (length l.slots) ≡ true
+          fits m k =
+              let room = ample_all (lent l) enough in
+              let ranges = (standing spelling m l k.run (at_ordered m k.kept)).0 in
+              let few = (run_stands spelling m k.run).few in
+              all_fit (count m) m.r m.level (length l.edges) (length l.vertices) (length l.ordered) (length l.slots)
+              ranges.some_name few (omega (arith, room.edges)) ranges.few_vertices (omega (arith, room.vertices, ranges.few_vertices))
+              (omega (arith, room.ordered, k.kept.level, p.few_levels)) (omega (arith, room.slots))
 
-            told_of : (m : Run N) → Left spelling m p l → LevelFitted w (graph spelling m) m.r (count m) m.values m.filled m.level l.edges vertices' l.ordered slots' o
-            told_of m k =
-                let a = k.kept.count in
-                let b = same_r ∙ k.kept.r in
-                let d = same_level ∙ k.kept.level in
-                let there = subst (λ (y : Type 0). y) (λ i. FittedAt (a i) (b i) (d i)) told in
-                there (graph spelling m) m.values m.filled (fits m k) (sized ∙ a) (ready spelling m l k.run (at_ordered m k.kept) (k.held (sym h)))
+          told_of : (m : Run N) → Left spelling m p l → LevelFitted w (graph spelling m) m.r (count m) m.values m.filled m.level l.edges vertices' l.ordered slots' o
+          told_of m k =
+              let a = k.kept.count in
+              let b = same_r ∙ k.kept.r in
+              let d = same_level ∙ k.kept.level in
+              let there = subst (λ (y : Type 0). y) (λ i. FittedAt (a i) (b i) (d i)) told in
+              there (graph spelling m) m.values m.filled (fits m k) (sized ∙ a) (ready spelling m l k.run (at_ordered m k.kept) (k.held enough))
 
-            pub unfound : o ≡ None → Given → (x : Result FitAnswer PressFault) → x ≡ Err (Unfit p.level) → FitDone spelling w p l x p l'
-            unfound none given x q =
-                let s = MatchOption-at_none (Unchanged l.vertices vertices' l.slots slots') Gave none given in
-                let same : l' ≡ l = let a = s.vertices_same in let b = s.slots_same in λ i. with_fit l (a i) (b i) in
-                subst (λ y. FitDone spelling w p l y p l') (sym q) (subst (λ y. FitDone spelling w p l (Err (Unfit p.level)) p y) (sym same) (record {
-                  done = by_lists spelling (fit (lent l) w) fitted gate unfit p l tail split (Unfit p.level) l open_gate refl refl
-                      (λ m k. (
-                        stops (found (fit_found spelling m w)) (Unfit m.level) [] (ap found (sym (told_of m k).answer ∙ none)) ∙ ap (λ n. Some (Unfit n)) (sym k.kept.level),
-                        k.held,
-                      ));
-                  lists = refl;
-                }))
-
-            module _ (law : Permutes w) (slots_long : length slots' ≡ length l.slots) (last_is : last ≡ leb p.levels (p.level + 1)) {x tries : ℕ} (some : o ≡ Some (x, tries)) (given : Given)
-                (p' : Pressing N) (staged : p'.stage ≡ t) (counted : p'.count ≡ p.count) (same_r' : p'.r ≡ p.r) (same_seed : p'.seed ≡ p.seed) (next_level : p'.level ≡ p.level + 1) (same_levels : p'.levels ≡ p.levels) where
-              gave : Gave (x, tries)
-              gave = MatchOption-at_some (Unchanged l.vertices vertices' l.slots slots') Gave (x, tries) some given
-
-              abbrev answer : FitAnswer
-              answer = record { rotation = x; tries = tries }
-
-              found_is : (m : Run N) → Left spelling m p l → fit_found spelling m w ≡ Some (x, tries)
-              found_is m k = sym (told_of m k).answer ∙ some
-
-              is_last : (m : Run N) → Left spelling m p l → last ≡ eqb (suc m.level) (length (vertex_order spelling m))
-              is_last m k =
-                  let same = levels_are m k.kept in
-                  let level_is = k.kept.level in
-                  last_is ∙ same_test (leb p.levels (p.level + 1)) (eqb (suc m.level) (length (vertex_order spelling m)))
-                  (λ y. eq-eqb (suc m.level) (length (vertex_order spelling m)) (omega (arith, leb-true p.levels (p.level + 1) y)))
-                  (λ y. le-leb p.levels (p.level + 1) (omega (arith, eqb-true (suc m.level) (length (vertex_order spelling m)) y)))
-
-              kept : (m : Run N) → Left spelling m p l → Kept spelling (with_level spelling m (Some (x, tries))) p'
-              kept m k = record {
-                stage = staged ∙ (stage_passed (Fit last) p.stage t e).led ∙ ap (λ c. cond c Fitted Ordered) (is_last m k);
-                count = counted ∙ k.kept.count;
-                r = same_r' ∙ k.kept.r;
-                seed = same_seed ∙ k.kept.seed;
-                level = next_level ∙ (let level_is = k.kept.level in let y : p.level + 1 ≡ suc m.level = omega arith in y);
-                levels = λ _. same_levels ∙ levels_are m k.kept;
-              }
-
-              held : (m : Run N) → Left spelling m p l → Held spelling (with_level spelling m (Some (x, tries))) l'
-              held m k = fitted_held spelling m l vertices' slots' (omega (arith, ap rank (at_ordered m k.kept))) (k.held (sym h)) x tries ((told_of m k).next x tries some)
-
-              long : lent l' ≡ lent l
-              long =
-                  let a = ap length gave.given ∙ length-set l.vertices (get_or l.ordered level 0) (valued x (row l.vertices (get_or l.ordered level 0))) in
-                  let b = slots_long in
-                  λ i. record { rows = length l.rows; tables = length l.tables; edges = length l.edges; vertices = a i; heap = length l.heap; ordered = length l.ordered; slots = b i }
-
-              wrote : FitWrote p.count p.r (get_or l.ordered p.level 0) x l l'
-              wrote =
-                  let v : get_or l.ordered level 0 ≡ get_or l.ordered p.level 0 = ap (λ i. get_or l.ordered i 0) same_level in
-                  record {
-                    rows = refl;
-                    tables = refl;
-                    edges = refl;
-                    one_of = omega (arith, gave.low);
-                    vertices = gave.given ∙ ap (λ u. set l.vertices u (valued x (row l.vertices u))) v;
-                    heap = refl;
-                    ordered = refl;
-                    slots_past = gave.slots_past;
-                  }
-
-              pub accepted : FitDone spelling w p l (Ok answer) p' l'
-              accepted = record {
-                done = by_acceptance spelling (fit (lent l) w) fitted gate unfit p l tail split answer p' l' open_gate long law
+          pub unfound : o ≡ None → Given → (x : Result FitAnswer PressFault) → x ≡ Err (Unfit p.level) → FitDone spelling w p l x p l'
+          unfound none given x q =
+              let s = MatchOption-at_none (Unchanged l.vertices vertices' l.slots slots') Gave none given in
+              let same : l' ≡ l = let a = s.vertices_same in let b = s.slots_same in λ i. with_fit l (a i) (b i) in
+              subst (λ y. FitDone spelling w p l y p l') (sym q) (subst (λ y. FitDone spelling w p l (Err (Unfit p.level)) p y) (sym same) (record {
+                done = by_lists spelling (fit (lent l) w) fitted gate unfit p l tail split (Unfit p.level) l open_gate refl refl
                     (λ m k. (
-                      goes (found (fit_found spelling m w)) (Unfit m.level) [] (ap found (found_is m k)),
-                      sym (ap fit_answer (found_is m k)),
-                      subst (λ y. Kept spelling (with_level spelling m y) p') (sym (found_is m k)) (kept m k),
-                      λ _. subst (λ y. Held spelling (with_level spelling m y) l') (sym (found_is m k)) (held m k),
+                      stops (found (fit_found spelling m w)) (Unfit m.level) [] (ap found (sym (told_of m k).answer ∙ none)) ∙ ap (λ n. Some (Unfit n)) (sym k.kept.level),
+                      k.held,
                     ));
-                lists = wrote;
-              }
+                lists = refl;
+              }))
+
+          module _ (law : Permutes w) (slots_long : length slots' ≡ length l.slots) (last_is : last ≡ leb p.levels (p.level + 1)) {x tries : ℕ} (some : o ≡ Some (x, tries)) (given : Given)
+              (p' : Pressing N) (staged : p'.stage ≡ t) (counted : p'.count ≡ p.count) (same_r' : p'.r ≡ p.r) (same_seed : p'.seed ≡ p.seed) (next_level : p'.level ≡ p.level + 1) (same_levels : p'.levels ≡ p.levels) where
+            gave : Gave (x, tries)
+            gave = MatchOption-at_some (Unchanged l.vertices vertices' l.slots slots') Gave (x, tries) some given
+
+            abbrev answer : FitAnswer
+            answer = record { rotation = x; tries = tries }
+
+            found_is : (m : Run N) → Left spelling m p l → fit_found spelling m w ≡ Some (x, tries)
+            found_is m k = sym (told_of m k).answer ∙ some
+
+            is_last : (m : Run N) → Left spelling m p l → last ≡ eqb (suc m.level) (length (vertex_order spelling m))
+            is_last m k =
+                let same = levels_are m k.kept in
+                let level_is = k.kept.level in
+                last_is ∙ same_test (leb p.levels (p.level + 1)) (eqb (suc m.level) (length (vertex_order spelling m)))
+                (λ y. eq-eqb (suc m.level) (length (vertex_order spelling m)) (omega (arith, leb-true p.levels (p.level + 1) y)))
+                (λ y. le-leb p.levels (p.level + 1) (omega (arith, eqb-true (suc m.level) (length (vertex_order spelling m)) y)))
+
+            kept : (m : Run N) → Left spelling m p l → Kept spelling (with_level spelling m (Some (x, tries))) p'
+            kept m k = record {
+              stage = staged ∙ (passed_by (Fit last) p.stage (lent l) t e).led ∙ ap (λ c. cond c Fitted Ordered) (is_last m k);
+              count = counted ∙ k.kept.count;
+              r = same_r' ∙ k.kept.r;
+              seed = same_seed ∙ k.kept.seed;
+              level = next_level ∙ (let level_is = k.kept.level in let y : p.level + 1 ≡ suc m.level = omega arith in y);
+              levels = λ _. same_levels ∙ levels_are m k.kept;
+            }
+
+            held : (m : Run N) → Left spelling m p l → Held spelling (with_level spelling m (Some (x, tries))) l'
+            held m k = fitted_held spelling m l vertices' slots' (omega (arith, ap rank (at_ordered m k.kept))) (k.held enough) x tries ((told_of m k).next x tries some)
+
+            long : lent l' ≡ lent l
+            long =
+                let a = ap length gave.given ∙ length-set l.vertices (get_or l.ordered level 0) (valued x (row l.vertices (get_or l.ordered level 0))) in
+                let b = slots_long in
+                λ i. record { rows = length l.rows; tables = length l.tables; edges = length l.edges; vertices = a i; heap = length l.heap; ordered = length l.ordered; slots = b i }
+
+            wrote : FitWrote p.count p.r (get_or l.ordered p.level 0) x l l'
+            wrote =
+                let v : get_or l.ordered level 0 ≡ get_or l.ordered p.level 0 = ap (λ i. get_or l.ordered i 0) same_level in
+                record {
+                  rows = refl;
+                  tables = refl;
+                  edges = refl;
+                  one_of = omega (arith, gave.low);
+                  vertices = gave.given ∙ ap (λ u. set l.vertices u (valued x (row l.vertices u))) v;
+                  heap = refl;
+                  ordered = refl;
+                  slots_past = gave.slots_past;
+                }
+
+            pub accepted : FitDone spelling w p l (Ok answer) p' l'
+            accepted = record {
+              done = by_acceptance spelling (fit (lent l) w) fitted gate unfit p l tail split answer p' l' open_gate long law
+                  (λ m k. (
+                    goes (found (fit_found spelling m w)) (Unfit m.level) [] (ap found (found_is m k)),
+                    sym (ap fit_answer (found_is m k)),
+                    subst (λ y. Kept spelling (with_level spelling m y) p') (sym (found_is m k)) (kept m k),
+                    λ _. subst (λ y. Held spelling (with_level spelling m y) l') (sym (found_is m k)) (held m k),
+                  ));
+              lists = wrote;
+            }

@@ -29,11 +29,11 @@ use Rattle.runs.proofs.Standing.{is_true}
 use Rattle.pressing.specs.declared.press.Pressing.{Pressing}
 use Rattle.pressing.specs.declared.stage.Event.TheVariants.{Map}
 use Rattle.pressing.specs.Memory.{Memory, lent}
-use Rattle.pressing.specs.Stages.{belongs, next_stage}
+use Rattle.pressing.specs.Stages.{belongs, begun}
 use Rattle.pressing.specs.Left.{as_row, Kept, Held, Left}
 use Rattle.pressing.specs.Work.{MapWorked}
 use Rattle.pressing.specs.Calls.{map_gate, MapWrote, MapDone}
-use Rattle.pressing.proofs.Steps.{stops, goes, first_behind, stage_passed, stage_refused, by_gate, by_lists, by_acceptance}
+use Rattle.pressing.proofs.Steps.{stops, goes, first_behind, passed_by, barred_by, by_gate, by_lists, by_acceptance}
 use Rattle.pressing.proofs.EnterCall.{held_open}
 
 clash_apart : (f : PressFault) → f ≡ NoName ⊎ (f ≡ VertexCount ⊎ (f ≡ Seed ⊎ (f ≡ WrongStage ⊎ (f ≡ ShortList)))) → f ≡ Clash → ⊥
@@ -92,145 +92,144 @@ module _ {N : Type 0} (spelling : N → List ℕ) (r seed : ℕ) (p : Pressing N
   refused_by : (o : Result (Unit {0}) PressFault) (f : PressFault) → o ≡ Err f → (f ≡ Clash → ⊥) → map_gate p l r seed ≡ Some f → MapDone spelling r seed p l o p l
   refused_by o f q ne e = subst (λ o. MapDone spelling r seed p l o p l) (sym q) (refuses f ne e)
 
-  pub wrong : (o : Result (Unit {0}) PressFault) {f : PressFault} → next_stage Map p.stage ≡ Err f → o ≡ Err f → MapDone spelling r seed p l o p l
-  wrong o {f} e q =
-      let s = stage_refused Map p.stage f e in
-      refused_by o f q (clash_apart f (inr (inr (inr (inl s.1))))) (stops (belongs Map p.stage) WrongStage (of_lengths p.count) s.0 ∙ ap (λ g. Some g) (sym s.1))
+  pub barred : (o : Result (Unit {0}) PressFault) {f : PressFault} → begun Map p.stage (lent l) ≡ Err f → o ≡ Err f → MapDone spelling r seed p l o p l
+  barred o {f} e q =
+      let s = barred_by Map p.stage (lent l) (of_count p.count) f e in
+      refused_by o f q s.1 s.0
 
-  module _ {t : Stage} (e : next_stage Map p.stage ≡ Ok t) where
+  module _ {t : Stage} (e : begun Map p.stage (lent l) ≡ Ok t) where
     on_stage : first (checked p.stage p.count) ≡ first (of_lengths p.count)
-    on_stage = goes (belongs Map p.stage) WrongStage (of_lengths p.count) (stage_passed Map p.stage t e).belonged
+    on_stage = goes (belongs Map p.stage) WrongStage (of_lengths p.count) (passed_by Map p.stage (lent l) t e).belonged
 
-    pub short : false ≡ ample (lent l) → MapDone spelling r seed p l (Err ShortList) p l
-    short h = refuses ShortList (clash_apart ShortList (inr (inr (inr (inr refl))))) (on_stage ∙ stops (ample (lent l)) ShortList (of_count p.count) (sym h))
+    enough : ample (lent l) ≡ true
+    enough = (passed_by Map p.stage (lent l) t e).long
 
-    module _ (h : true ≡ ample (lent l)) where
-      long : first (checked p.stage p.count) ≡ first (of_count p.count)
-      long = on_stage ∙ goes (ample (lent l)) ShortList (of_count p.count) (sym h)
+    long : first (checked p.stage p.count) ≡ first (of_count p.count)
+    long = on_stage ∙ goes (ample (lent l)) ShortList (of_count p.count) enough
 
-      -- no name, or r out of its range
-      by_sizes : (c d : Bool) (f : HashFault) → first (unless c hash.NoName ∷ unless d hash.VertexCount ∷ []) ≡ Some f →
-          (first (unless c NoName ∷ unless d VertexCount ∷ of_seed) ≡ Some (of_hashing f)) × (of_hashing f ≡ Clash → ⊥)
-      by_sizes true true f q = absurd (let z : ◌≡◌ {A = ℕ} 0 1 = cc in omega arith)
-      by_sizes true false f q =
-          let s : f ≡ hash.VertexCount = cc in (ap (λ g. Some (of_hashing g)) (sym s), clash_apart (of_hashing f) (inr (inl (ap of_hashing s))))
-      by_sizes false d f q =
-          let s : f ≡ hash.NoName = cc in (ap (λ g. Some (of_hashing g)) (sym s), clash_apart (of_hashing f) (inl (ap of_hashing s)))
+    -- no name, or r out of its range
+    by_sizes : (c d : Bool) (f : HashFault) → first (unless c hash.NoName ∷ unless d hash.VertexCount ∷ []) ≡ Some f →
+        (first (unless c NoName ∷ unless d VertexCount ∷ of_seed) ≡ Some (of_hashing f)) × (of_hashing f ≡ Clash → ⊥)
+    by_sizes true true f q = absurd (let z : ◌≡◌ {A = ℕ} 0 1 = cc in omega arith)
+    by_sizes true false f q =
+        let s : f ≡ hash.VertexCount = cc in (ap (λ g. Some (of_hashing g)) (sym s), clash_apart (of_hashing f) (inr (inl (ap of_hashing s))))
+    by_sizes false d f q =
+        let s : f ≡ hash.NoName = cc in (ap (λ g. Some (of_hashing g)) (sym s), clash_apart (of_hashing f) (inl (ap of_hashing s)))
 
-      by_seed : (c : Bool) (f : HashFault) → unless c hash.SeedRange ≡ Some f → (first (unless c Seed ∷ []) ≡ Some (of_hashing f)) × (of_hashing f ≡ Clash → ⊥)
-      by_seed true f q = absurd (let z : ◌≡◌ {A = ℕ} 0 1 = cc in omega arith)
-      by_seed false f q =
-          let s : f ≡ hash.SeedRange = cc in (ap (λ g. Some (of_hashing g)) (sym s), clash_apart (of_hashing f) (inr (inr (inl (ap of_hashing s)))))
+    by_seed : (c : Bool) (f : HashFault) → unless c hash.SeedRange ≡ Some f → (first (unless c Seed ∷ []) ≡ Some (of_hashing f)) × (of_hashing f ≡ Clash → ⊥)
+    by_seed true f q = absurd (let z : ◌≡◌ {A = ℕ} 0 1 = cc in omega arith)
+    by_seed false f q =
+        let s : f ≡ hash.SeedRange = cc in (ap (λ g. Some (of_hashing g)) (sym s), clash_apart (of_hashing f) (inr (inr (inl (ap of_hashing s)))))
 
-      in_seed : (c : Bool) → unless c hash.SeedRange ≡ None → first (unless c Seed ∷ []) ≡ None
-      in_seed true q = refl
-      in_seed false q = absurd (let z : ◌≡◌ {A = ℕ} 0 1 = cc in omega arith)
+    in_seed : (c : Bool) → unless c hash.SeedRange ≡ None → first (unless c Seed ∷ []) ≡ None
+    in_seed true q = refl
+    in_seed false q = absurd (let z : ◌≡◌ {A = ℕ} 0 1 = cc in omega arith)
 
-      in_sizes : (b c d : Bool) → first (unless b hash.TooManyNames ∷ unless c hash.NoName ∷ unless d hash.VertexCount ∷ []) ≡ None →
-          first (unless c NoName ∷ unless d VertexCount ∷ of_seed) ≡ first of_seed
-      in_sizes true true true q = refl
-      in_sizes true true false q = absurd (let z : ◌≡◌ {A = ℕ} 0 1 = cc in omega arith)
-      in_sizes true false d q = absurd (let z : ◌≡◌ {A = ℕ} 0 1 = cc in omega arith)
-      in_sizes false c d q = absurd (let z : ◌≡◌ {A = ℕ} 0 1 = cc in omega arith)
+    in_sizes : (b c d : Bool) → first (unless b hash.TooManyNames ∷ unless c hash.NoName ∷ unless d hash.VertexCount ∷ []) ≡ None →
+        first (unless c NoName ∷ unless d VertexCount ∷ of_seed) ≡ first of_seed
+    in_sizes true true true q = refl
+    in_sizes true true false q = absurd (let z : ◌≡◌ {A = ℕ} 0 1 = cc in omega arith)
+    in_sizes true false d q = absurd (let z : ◌≡◌ {A = ℕ} 0 1 = cc in omega arith)
+    in_sizes false c d q = absurd (let z : ◌≡◌ {A = ℕ} 0 1 = cc in omega arith)
 
-      sized : sizes_fault p.count r ≡ None → first (checked p.stage p.count) ≡ first of_seed
-      sized q = long ∙ in_sizes (leb p.count 1024) (leb 1 p.count) (in_range 1 1024 r) q
+    sized : sizes_fault p.count r ≡ None → first (checked p.stage p.count) ≡ first of_seed
+    sized q = long ∙ in_sizes (leb p.count 1024) (leb 1 p.count) (in_range 1 1024 r) q
 
-      pub bad_sizes : (o : Result (Unit {0}) PressFault) (f : HashFault) → sizes_fault p.count r ≡ Some f → o ≡ Err (of_hashing f) → MapDone spelling r seed p l o p l
-      bad_sizes o f q w =
-          let few = goes (leb p.count 1024) hash.TooManyNames (unless (leb 1 p.count) hash.NoName ∷ unless (in_range 1 1024 r) hash.VertexCount ∷ []) (le-leb p.count 1024 p.few_names) in
-          let s = by_sizes (leb 1 p.count) (in_range 1 1024 r) f (sym few ∙ q) in
-          refused_by o (of_hashing f) w s.1 (long ∙ s.0)
+    pub bad_sizes : (o : Result (Unit {0}) PressFault) (f : HashFault) → sizes_fault p.count r ≡ Some f → o ≡ Err (of_hashing f) → MapDone spelling r seed p l o p l
+    bad_sizes o f q w =
+        let few = goes (leb p.count 1024) hash.TooManyNames (unless (leb 1 p.count) hash.NoName ∷ unless (in_range 1 1024 r) hash.VertexCount ∷ []) (le-leb p.count 1024 p.few_names) in
+        let s = by_sizes (leb 1 p.count) (in_range 1 1024 r) f (sym few ∙ q) in
+        refused_by o (of_hashing f) w s.1 (long ∙ s.0)
 
-      pub bad_seed : (o : Result (Unit {0}) PressFault) (f : HashFault) → sizes_fault p.count r ≡ None → seed_fault seed ≡ Some f → o ≡ Err (of_hashing f) → MapDone spelling r seed p l o p l
-      bad_seed o f q u w =
-          let s = by_seed (in_range 1 2147483646 seed) f u in
-          refused_by o (of_hashing f) w s.1 (sized q ∙ s.0)
+    pub bad_seed : (o : Result (Unit {0}) PressFault) (f : HashFault) → sizes_fault p.count r ≡ None → seed_fault seed ≡ Some f → o ≡ Err (of_hashing f) → MapDone spelling r seed p l o p l
+    bad_seed o f q u w =
+        let s = by_seed (in_range 1 2147483646 seed) f u in
+        refused_by o (of_hashing f) w s.1 (sized q ∙ s.0)
 
-      module _ (q : sizes_fault p.count r ≡ None) (u : seed_fault seed ≡ None) where
-        gate : map_gate p l r seed ≡ None
-        gate = sized q ∙ in_seed (in_range 1 2147483646 seed) u
+    module _ (q : sizes_fault p.count r ≡ None) (u : seed_fault seed ≡ None) where
+      gate : map_gate p l r seed ≡ None
+      gate = sized q ∙ in_seed (in_range 1 2147483646 seed) u
 
-        in_rows : (m : Run N) → Left spelling m p l → take p.count l.rows ≡ map as_row m.names
-        in_rows m k = ap (λ n. take n l.rows) k.kept.count ∙ (k.held (sym h)).names
+      in_rows : (m : Run N) → Left spelling m p l → take p.count l.rows ≡ map as_row m.names
+      in_rows m k = ap (λ n. take n l.rows) k.kept.count ∙ (k.held enough).names
 
-        abbrev es : List Triple
-        es = row_triples spelling (tables_of seed) p.count r (take p.count l.rows)
+      abbrev es : List Triple
+      es = row_triples spelling (tables_of seed) p.count r (take p.count l.rows)
 
-        same_triples : (m : Run N) → Left spelling m p l → es ≡ triples spelling m.names r seed
-        same_triples m k =
-            ap (row_triples spelling (tables_of seed) p.count r) (in_rows m k) ∙
-            map-map (row_triple spelling (tables_of seed) p.count r) as_row m.names ∙
-            ap (λ n. map (λ x. triple (tables_of seed) n r (spelling x.0)) m.names) k.kept.count
+      same_triples : (m : Run N) → Left spelling m p l → es ≡ triples spelling m.names r seed
+      same_triples m k =
+          ap (row_triples spelling (tables_of seed) p.count r) (in_rows m k) ∙
+          map-map (row_triple spelling (tables_of seed) p.count r) as_row m.names ∙
+          ap (λ n. map (λ x. triple (tables_of seed) n r (spelling x.0)) m.names) k.kept.count
 
-        module _ {tables' : List ℕ} {edges' : List Edge} {vertices' : List Vertex} (long_tables : length tables' ≡ length l.tables) (long_edges : length edges' ≡ length l.edges) (long_vertices : length vertices' ≡ length l.vertices)
-            {o : Result (Unit {0}) PressFault} (w : MapWorked spelling p.count r seed l.rows l.tables tables' l.edges edges' l.vertices vertices' o) where
-          abbrev l' : Memory N
-          l' = record { rows = l.rows; tables = tables'; edges = edges'; vertices = vertices'; heap = l.heap; ordered = l.ordered; slots = l.slots }
+      module _ {tables' : List ℕ} {edges' : List Edge} {vertices' : List Vertex} (long_tables : length tables' ≡ length l.tables) (long_edges : length edges' ≡ length l.edges) (long_vertices : length vertices' ≡ length l.vertices)
+          {o : Result (Unit {0}) PressFault} (w : MapWorked spelling p.count r seed l.rows l.tables tables' l.edges edges' l.vertices vertices' o) where
+        abbrev l' : Memory N
+        l' = record { rows = l.rows; tables = tables'; edges = edges'; vertices = vertices'; heap = l.heap; ordered = l.ordered; slots = l.slots }
 
-          wrote : MapWrote spelling p.count r seed l l'
-          wrote = record { rows = refl; tables = w.tables_drawn; graph = w.graph; edges_past = w.edges_past; vertices_past = w.vertices_past; heap = refl; ordered = refl; slots = refl }
+        wrote : MapWrote spelling p.count r seed l l'
+        wrote = record { rows = refl; tables = w.tables_drawn; graph = w.graph; edges_past = w.edges_past; vertices_past = w.vertices_past; heap = refl; ordered = refl; slots = refl }
 
-          as_long : lent l' ≡ lent l
-          as_long = λ i. record { rows = length l.rows; tables = long_tables i; edges = long_edges i; vertices = long_vertices i; heap = length l.heap; ordered = length l.ordered; slots = length l.slots }
+        as_long : lent l' ≡ lent l
+        as_long = λ i. record { rows = length l.rows; tables = long_tables i; edges = long_edges i; vertices = long_vertices i; heap = length l.heap; ordered = length l.ordered; slots = length l.slots }
 
-          by_answer : (b : Bool) (f : PressFault) → ◌≡◌ {A = Result (Unit {0}) PressFault} (Err f) (with_value (unless (not b) Clash) tt) → (b ≡ true) × (f ≡ Clash)
-          by_answer true f e = (refl, cc)
-          by_answer false f e = absurd (let z : ◌≡◌ {A = ℕ} 0 1 = cc in omega arith)
+        by_answer : (b : Bool) (f : PressFault) → ◌≡◌ {A = Result (Unit {0}) PressFault} (Err f) (with_value (unless (not b) Clash) tt) → (b ≡ true) × (f ≡ Clash)
+        by_answer true f e = (refl, cc)
+        by_answer false f e = absurd (let z : ◌≡◌ {A = ℕ} 0 1 = cc in omega arith)
 
-          by_none : (b : Bool) → ◌≡◌ {A = Result (Unit {0}) PressFault} (Ok tt) (with_value (unless (not b) Clash) tt) → b ≡ false
-          by_none true e = absurd (let z : ◌≡◌ {A = ℕ} 0 1 = cc in omega arith)
-          by_none false e = refl
+        by_none : (b : Bool) → ◌≡◌ {A = Result (Unit {0}) PressFault} (Ok tt) (with_value (unless (not b) Clash) tt) → b ≡ false
+        by_none true e = absurd (let z : ◌≡◌ {A = ℕ} 0 1 = cc in omega arith)
+        by_none false e = refl
 
-          same_clash : (m : Run N) → Left spelling m p l → clashes es ≡ clashing m
-          same_clash m k = ap (repeats same_triple) (same_triples m k)
+        same_clash : (m : Run N) → Left spelling m p l → clashes es ≡ clashing m
+        same_clash m k = ap (repeats same_triple) (same_triples m k)
 
-          clash_done : clashes es ≡ true → MapDone spelling r seed p l (Err Clash) p l'
-          clash_done c = record {
-            done = by_lists spelling (map_to (lent l) r seed) mapped (map_gate p l r seed) (Some Clash) p l tail split Clash l' gate refl as_long
+        clash_done : clashes es ≡ true → MapDone spelling r seed p l (Err Clash) p l'
+        clash_done c = record {
+          done = by_lists spelling (map_to (lent l) r seed) mapped (map_gate p l r seed) (Some Clash) p l tail split Clash l' gate refl as_long
+              (λ m k. (
+                stops (not (clashing m)) Clash [] (not_from_true (clashing m) (sym (same_clash m k) ∙ c)),
+                λ a. held_open spelling m (sym k.kept.stage ∙ at_open) l' (k.held a).names,
+              ));
+          written = λ _. wrote;
+          kept = λ f e n. absurd (n (let z : f ≡ Clash = cc in z));
+        }
+          where
+            at_open : p.stage ≡ Open
+            at_open = is_true p.stage Open (passed_by Map p.stage (lent l) t e).belonged
+
+        pub clashed : (f : PressFault) (a : Result (Unit {0}) PressFault) → o ≡ Err f → a ≡ Err f → MapDone spelling r seed p l a p l'
+        clashed f a x y =
+            let z = by_answer (clashes es) f (sym x ∙ w.answer) in
+            subst (λ a. MapDone spelling r seed p l a p l') (sym (y ∙ ap (λ g. Err g) z.1)) (clash_done z.0)
+
+        module _ (x : o ≡ Ok tt) (p' : Pressing N) (staged : p'.stage ≡ t) (counted : p'.count ≡ p.count) (r_is : p'.r ≡ r) (seed_is : p'.seed ≡ seed) (level_is : p'.level ≡ p.level) where
+          held : (m : Run N) → Left spelling m p l → Held spelling (with_map m r seed) l'
+          held m k = record {
+            names = (k.held enough).names;
+            mapped = λ _. record {
+              tables = ap (take 12288) w.tables_drawn ∙ take-append-le 12288 (tables_of seed) (drop 12288 l.tables) (omega (arith, length_tables seed)) ∙ take_all 12288 (tables_of seed) (omega (arith, length_tables seed));
+              graph = subst (λ gs. Graph gs r edges' vertices') (same_triples m k) w.graph;
+            };
+            ordered = λ b. absurd (omega arith);
+          }
+
+          pub accepted : MapDone spelling r seed p l (Ok tt) p' l'
+          accepted = record {
+            done = by_acceptance spelling (map_to (lent l) r seed) mapped (map_gate p l r seed) (Some Clash) p l tail split tt p' l' gate as_long tt
                 (λ m k. (
-                  stops (not (clashing m)) Clash [] (not_from_true (clashing m) (sym (same_clash m k) ∙ c)),
-                  λ a. held_open spelling m (sym k.kept.stage ∙ at_open) l' (k.held a).names,
+                  goes (not (clashing m)) Clash [] (not_from_false (clashing m) (sym (same_clash m k) ∙ by_none (clashes es) (sym x ∙ w.answer))),
+                  refl,
+                  record {
+                    stage = staged ∙ (passed_by Map p.stage (lent l) t e).led;
+                    count = counted ∙ k.kept.count;
+                    r = r_is;
+                    seed = seed_is;
+                    level = level_is ∙ k.kept.level;
+                    levels = λ b. absurd (omega arith);
+                  },
+                  λ _. held m k,
                 ));
             written = λ _. wrote;
-            kept = λ f e n. absurd (n (let z : f ≡ Clash = cc in z));
+            kept = λ f e n. absurd (let z : ◌≡◌ {A = ℕ} 0 1 = cc in omega arith);
           }
-            where
-              at_open : p.stage ≡ Open
-              at_open = is_true p.stage Open (stage_passed Map p.stage t e).belonged
-
-          pub clashed : (f : PressFault) (a : Result (Unit {0}) PressFault) → o ≡ Err f → a ≡ Err f → MapDone spelling r seed p l a p l'
-          clashed f a x y =
-              let z = by_answer (clashes es) f (sym x ∙ w.answer) in
-              subst (λ a. MapDone spelling r seed p l a p l') (sym (y ∙ ap (λ g. Err g) z.1)) (clash_done z.0)
-
-          module _ (x : o ≡ Ok tt) (p' : Pressing N) (staged : p'.stage ≡ t) (counted : p'.count ≡ p.count) (r_is : p'.r ≡ r) (seed_is : p'.seed ≡ seed) (level_is : p'.level ≡ p.level) where
-            held : (m : Run N) → Left spelling m p l → Held spelling (with_map m r seed) l'
-            held m k = record {
-              names = (k.held (sym h)).names;
-              mapped = λ _. record {
-                tables = ap (take 12288) w.tables_drawn ∙ take-append-le 12288 (tables_of seed) (drop 12288 l.tables) (omega (arith, length_tables seed)) ∙ take_all 12288 (tables_of seed) (omega (arith, length_tables seed));
-                graph = subst (λ gs. Graph gs r edges' vertices') (same_triples m k) w.graph;
-              };
-              ordered = λ b. absurd (omega arith);
-            }
-
-            pub accepted : MapDone spelling r seed p l (Ok tt) p' l'
-            accepted = record {
-              done = by_acceptance spelling (map_to (lent l) r seed) mapped (map_gate p l r seed) (Some Clash) p l tail split tt p' l' gate as_long tt
-                  (λ m k. (
-                    goes (not (clashing m)) Clash [] (not_from_false (clashing m) (sym (same_clash m k) ∙ by_none (clashes es) (sym x ∙ w.answer))),
-                    refl,
-                    record {
-                      stage = staged ∙ (stage_passed Map p.stage t e).led;
-                      count = counted ∙ k.kept.count;
-                      r = r_is;
-                      seed = seed_is;
-                      level = level_is ∙ k.kept.level;
-                      levels = λ b. absurd (omega arith);
-                    },
-                    λ _. held m k,
-                  ));
-              written = λ _. wrote;
-              kept = λ f e n. absurd (let z : ◌≡◌ {A = ℕ} 0 1 = cc in omega arith);
-            }

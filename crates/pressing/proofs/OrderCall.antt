@@ -21,11 +21,11 @@ use Rattle.runs.proofs.Standing.{is_true, length_graph}
 use Rattle.pressing.specs.declared.press.Pressing.{Pressing}
 use Rattle.pressing.specs.declared.stage.Event.TheVariants.{Order}
 use Rattle.pressing.specs.Memory.{Memory, lent}
-use Rattle.pressing.specs.Stages.{belongs, next_stage}
+use Rattle.pressing.specs.Stages.{belongs, begun}
 use Rattle.pressing.specs.Left.{Kept, Held, Left}
 use Rattle.pressing.specs.Work.{OrderWorked}
 use Rattle.pressing.specs.Calls.{order_gate, OrderDone}
-use Rattle.pressing.proofs.Steps.{stops, goes, or_none, stage_passed, stage_refused, by_gate, by_acceptance}
+use Rattle.pressing.proofs.Steps.{stops, goes, or_none, passed_by, barred_by, by_gate, by_acceptance}
 
 -- before the first fit every slot is empty
 
@@ -59,19 +59,19 @@ module _ {N : Type 0} (spelling : N → List ℕ) (p : Pressing N) (l : Memory N
   refuses : (f : PressFault) → order_gate p l ≡ Some f → OrderDone spelling p l (Err f) p l
   refuses f e = record { done = by_gate spelling (order_by (lent l)) ordered (order_gate p l) None p l (λ _. None) split f e; lists = refl }
 
-  pub wrong : (o : Result ℕ PressFault) {f : PressFault} → next_stage Order p.stage ≡ Err f → o ≡ Err f → OrderDone spelling p l o p l
-  wrong o {f} e q =
-      let s = stage_refused Order p.stage f e in
-      subst (λ o. OrderDone spelling p l o p l) (sym q) (refuses f (stops (belongs Order p.stage) WrongStage of_lengths s.0 ∙ ap (λ g. Some g) (sym s.1)))
+  pub barred : (o : Result ℕ PressFault) {f : PressFault} → begun Order p.stage (lent l) ≡ Err f → o ≡ Err f → OrderDone spelling p l o p l
+  barred o {f} e q =
+      let s = barred_by Order p.stage (lent l) [] f e in
+      subst (λ o. OrderDone spelling p l o p l) (sym q) (refuses f s.0)
 
-  module _ {t : Stage} (e : next_stage Order p.stage ≡ Ok t) where
+  module _ {t : Stage} (e : begun Order p.stage (lent l) ≡ Ok t) where
     on_stage : order_gate p l ≡ first of_lengths
-    on_stage = goes (belongs Order p.stage) WrongStage of_lengths (stage_passed Order p.stage t e).belonged
+    on_stage = goes (belongs Order p.stage) WrongStage of_lengths (passed_by Order p.stage (lent l) t e).belonged
 
-    pub short : false ≡ ample (lent l) → OrderDone spelling p l (Err ShortList) p l
-    short h = refuses ShortList (on_stage ∙ stops (ample (lent l)) ShortList [] (sym h))
+    enough : ample (lent l) ≡ true
+    enough = (passed_by Order p.stage (lent l) t e).long
 
-    module _ (h : true ≡ ample (lent l)) {vertices' : List Vertex} {heap' : List Waiting} {ordered' : List ℕ} {slots' : List (Option ℕ)}
+    module _ {vertices' : List Vertex} {heap' : List Waiting} {ordered' : List ℕ} {slots' : List (Option ℕ)}
         (long_vertices : length vertices' ≡ length l.vertices) (long_heap : length heap' ≡ length l.heap) (long_ordered : length ordered' ≡ length l.ordered) (long_slots : length slots' ≡ length l.slots)
         {k : ℕ} (w : OrderWorked p.count p.r l.edges l.vertices vertices' l.heap heap' l.ordered ordered' l.slots slots' k) where
       abbrev l' : Memory N
@@ -82,13 +82,13 @@ module _ {N : Type 0} (spelling : N → List ℕ) (p : Pressing N) (l : Memory N
 
       module _ (m : Run N) (z : Left spelling m p l) where
         at_mapped : m.stage ≡ Mapped
-        at_mapped = sym z.kept.stage ∙ is_true p.stage Mapped (stage_passed Order p.stage t e).belonged
+        at_mapped = sym z.kept.stage ∙ is_true p.stage Mapped (passed_by Order p.stage (lent l) t e).belonged
 
         rank_mapped : rank Mapped ≤ rank m.stage
         rank_mapped = omega (arith, ap rank at_mapped)
 
         held_graph : Graph (graph spelling m) p.r l.edges l.vertices
-        held_graph = subst (λ r. Graph (graph spelling m) r l.edges l.vertices) (sym z.kept.r) ((z.held (sym h)).mapped rank_mapped).graph
+        held_graph = subst (λ r. Graph (graph spelling m) r l.edges l.vertices) (sym z.kept.r) ((z.held enough).mapped rank_mapped).graph
 
         exact : OrderedGraph (graph spelling m) m.r l.edges vertices' ordered' k
         exact = subst (λ r. OrderedGraph (graph spelling m) r l.edges vertices' ordered' k) z.kept.r (w.exact (graph spelling m) (length_graph spelling m ∙ sym z.kept.count) held_graph)
@@ -108,8 +108,8 @@ module _ {N : Type 0} (spelling : N → List ℕ) (p : Pressing N) (l : Memory N
 
         held : Held spelling (with_order m) l'
         held = record {
-          names = (z.held (sym h)).names;
-          mapped = λ _. record { tables = ((z.held (sym h)).mapped rank_mapped).tables; graph = exact.graph };
+          names = (z.held enough).names;
+          mapped = λ _. record { tables = ((z.held enough).mapped rank_mapped).tables; graph = exact.graph };
           ordered = λ _. record {
             order = subst (λ j. OrderedGraph (graph spelling m) m.r l.edges vertices' ordered' j) counted exact;
             values = values_at;
@@ -120,12 +120,12 @@ module _ {N : Type 0} (spelling : N → List ℕ) (p : Pressing N) (l : Memory N
       pub accepted : (p' : Pressing N) → p'.stage ≡ t → p'.count ≡ p.count → p'.r ≡ p.r → p'.seed ≡ p.seed → p'.level ≡ 0 → p'.levels ≡ k → OrderDone spelling p l (Ok k) p' l'
       accepted p' staged counted_is r_is seed_is level_is levels_is = record {
         done = by_acceptance spelling (order_by (lent l)) ordered (order_gate p l) None p l (λ _. None) split k p' l'
-            (on_stage ∙ goes (ample (lent l)) ShortList [] (sym h)) as_long tt
+            (on_stage ∙ goes (ample (lent l)) ShortList [] enough) as_long tt
             (λ m z. (
               refl,
               ap (λ j. answered.Ordered j) (counted m z),
               record {
-                stage = staged ∙ (stage_passed Order p.stage t e).led;
+                stage = staged ∙ (passed_by Order p.stage (lent l) t e).led;
                 count = counted_is ∙ z.kept.count;
                 r = r_is ∙ z.kept.r;
                 seed = seed_is ∙ z.kept.seed;

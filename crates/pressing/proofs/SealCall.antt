@@ -28,11 +28,11 @@ use Rattle.sealing.specs.Sealing.{row_entry, Laid, seal_length, seal_fits, SealR
 use Rattle.pressing.specs.declared.press.Pressing.{Pressing}
 use Rattle.pressing.specs.declared.stage.Event.TheVariants.{Seal}
 use Rattle.pressing.specs.Memory.{Memory, lent}
-use Rattle.pressing.specs.Stages.{belongs, next_stage}
+use Rattle.pressing.specs.Stages.{belongs, begun}
 use Rattle.pressing.specs.Left.{as_row, Kept, Held, Left, Done}
 use Rattle.pressing.specs.Calls.{seal_gate, SealDone}
 use Rattle.pressing.proofs.Room.{Ample, ample_all, first_found}
-use Rattle.pressing.proofs.Steps.{stops, goes, or_none, stage_passed, stage_refused, run_stands, by_gate, by_acceptance}
+use Rattle.pressing.proofs.Steps.{stops, goes, or_none, passed_by, barred_by, run_stands, by_gate, by_acceptance}
 use Rattle.pressing.proofs.EnterCall.{Moved}
 
 err_ok : {T E X : Type 0} {x : T} {f : E} → Err f ≡ Ok x → X
@@ -142,19 +142,19 @@ module _ {N : Type 0} (spelling : N → List ℕ) (kind : ℕ) (p : Pressing N) 
     string_long = refl;
   }
 
-  pub wrong : (r : Result ℕ PressFault) {f : PressFault} → next_stage Seal p.stage ≡ Err f → r ≡ Err f → SealDone spelling kind p l string r p l string
-  wrong r {f} e q =
-      let s = stage_refused Seal p.stage f e in
-      subst (λ r. SealDone spelling kind p l string r p l string) (sym q) (refuses f (stops (belongs Seal p.stage) WrongStage of_lengths s.0 ∙ ap (λ g. Some g) (sym s.1)))
+  pub barred : (r : Result ℕ PressFault) {f : PressFault} → begun Seal p.stage (lent l) ≡ Err f → r ≡ Err f → SealDone spelling kind p l string r p l string
+  barred r {f} e q =
+      let s = barred_by Seal p.stage (lent l) of_string f e in
+      subst (λ r. SealDone spelling kind p l string r p l string) (sym q) (refuses f s.0)
 
-  module _ {t : Stage} (e : next_stage Seal p.stage ≡ Ok t) where
+  module _ {t : Stage} (e : begun Seal p.stage (lent l) ≡ Ok t) where
     on_stage : belongs Seal p.stage ≡ true
-    on_stage = (stage_passed Seal p.stage t e).belonged
+    on_stage = (passed_by Seal p.stage (lent l) t e).belonged
 
-    pub short : false ≡ ample (lent l) → SealDone spelling kind p l string (Err ShortList) p l string
-    short h = refuses ShortList (goes (belongs Seal p.stage) WrongStage of_lengths on_stage ∙ stops (ample (lent l)) ShortList of_string (sym h))
+    enough : ample (lent l) ≡ true
+    enough = (passed_by Seal p.stage (lent l) t e).long
 
-    module _ (h : true ≡ ample (lent l)) {n r seed : ℕ} (same_n : n ≡ p.count) (same_r : r ≡ p.r) (same_seed : seed ≡ p.seed) (string' : List ℕ) where
+    module _ {n r seed : ℕ} (same_n : n ≡ p.count) (same_r : r ≡ p.r) (same_seed : seed ≡ p.seed) (string' : List ℕ) where
       abbrev fits : Bool
       fits = seal_fits n r (length string) (length l.vertices) (length l.slots)
 
@@ -166,7 +166,7 @@ module _ {N : Type 0} (spelling : N → List ℕ) (kind : ℕ) (p : Pressing N) 
       Written o = MatchOption o (SealRefused fits string string') Wrote
 
       room : Ample (lent l)
-      room = ample_all (lent l) (sym h)
+      room = ample_all (lent l) enough
 
       lists_fit : (leb (2 * r) (length l.vertices) && leb n (length l.slots)) ≡ true
       lists_fit = and_from (leb (2 * r) (length l.vertices)) (leb n (length l.slots))
@@ -187,14 +187,14 @@ module _ {N : Type 0} (spelling : N → List ℕ) (kind : ℕ) (p : Pressing N) 
           let s = MatchOption-at_none (SealRefused fits string string') Wrote none w in
           subst (λ y. SealDone spelling kind p l string y p l string') (sym q) (subst (λ y. SealDone spelling kind p l string (Err ShortString) p l y) (sym s.same)
           (refuses ShortString (
-          goes (belongs Seal p.stage) WrongStage of_lengths on_stage ∙ goes (ample (lent l)) ShortList of_string (sym h) ∙
+          goes (belongs Seal p.stage) WrongStage of_lengths on_stage ∙ goes (ample (lent l)) ShortList of_string enough ∙
           stops (leb (seal_length p.count p.r) (length string)) ShortString [] (no_room s.short)
           )))
 
       module _ (k : ℕ) (w : Wrote k) (p' : Pressing N) (staged : p'.stage ≡ t) (counted : p'.count ≡ p.count) (same_levels : p'.levels ≡ p.levels) (moved : Moved p p') where
         open_gate : gate ≡ None
         open_gate =
-            goes (belongs Seal p.stage) WrongStage of_lengths on_stage ∙ goes (ample (lent l)) ShortList of_string (sym h) ∙
+            goes (belongs Seal p.stage) WrongStage of_lengths on_stage ∙ goes (ample (lent l)) ShortList of_string enough ∙
             goes (leb (seal_length p.count p.r) (length string)) ShortString []
             (sym same_long ∙ (and_parts (leb (seal_length n r) (length string)) (leb (2 * r) (length l.vertices) && leb n (length l.slots)) w.long).0)
 
@@ -206,7 +206,7 @@ module _ {N : Type 0} (spelling : N → List ℕ) (kind : ℕ) (p : Pressing N) 
 
         kept : (m : Run N) → Kept spelling m p → Kept spelling (led_to Sealed m) p'
         kept m q = record {
-          stage = staged ∙ (stage_passed Seal p.stage t e).led;
+          stage = staged ∙ (passed_by Seal p.stage (lent l) t e).led;
           count = counted ∙ q.count;
           r = moved.r ∙ q.r;
           seed = moved.seed ∙ q.seed;
@@ -235,7 +235,7 @@ module _ {N : Type 0} (spelling : N → List ℕ) (kind : ℕ) (p : Pressing N) 
         laid_here m q =
             let s = run_stands spelling m q.run in
             let plate = (seals_soundly spelling m s (lent l) (length string) k (sym (sealed_done.told m q).0)).0 in
-            let x = laid spelling m s (at spelling m Fitted s (at_fitted m q.kept)) l room (q.held (sym h)) (omega (arith, high m q.kept)) plate in
+            let x = laid spelling m s (at spelling m Fitted s (at_fitted m q.kept)) l room (q.held enough) (omega (arith, high m q.kept)) plate in
             let a = sym (same_n ∙ q.kept.count) in
             let b = sym (same_r ∙ q.kept.r) in
             let d = sym (same_seed ∙ q.kept.seed) in

@@ -5,15 +5,15 @@ use Rattle.std.proofs.lemmas.Bool.{both_ways}
 use Rattle.refusals.specs.Checks.{unless, or, first, with_value}
 use Rattle.runs.specs.declared.stage.Stage.{Stage}
 use Rattle.runs.specs.declared.fault.PressFault.{PressFault}
-use Rattle.runs.specs.declared.fault.PressFault.TheVariants.{WrongStage}
+use Rattle.runs.specs.declared.fault.PressFault.TheVariants.{WrongStage, ShortList, Clash}
 use Rattle.runs.specs.declared.answer.Outcome.{Outcome}
-use Rattle.runs.specs.Runs.{ample, Call, Run, refusal, unless_refused, accepted, step, continued, beginning, answer_accepted, answer}
+use Rattle.runs.specs.Runs.{Lent, ample, Call, Run, refusal, unless_refused, accepted, step, continued, beginning, answer_accepted, answer}
 use Rattle.runs.specs.Laws.{Sound}
 use Rattle.runs.proofs.Standing.{Stands, stands}
 use Rattle.pressing.specs.declared.press.Pressing.{Pressing}
 use Rattle.pressing.specs.declared.stage.Event.{Event}
 use Rattle.pressing.specs.Memory.{Memory, lent}
-use Rattle.pressing.specs.Stages.{belongs, leads, next_stage}
+use Rattle.pressing.specs.Stages.{belongs, leads, next_stage, begun}
 use Rattle.pressing.specs.Left.{IsRun, Kept, Held, Left, Done}
 
 -- 1. checks one after the other
@@ -62,6 +62,31 @@ by_strange false t f h = (refl, cc)
 
 pub stage_refused : (e : Event) (s : Stage) (f : PressFault) → next_stage e s ≡ Err f → (belongs e s ≡ false) × (f ≡ WrongStage)
 stage_refused e s f h = by_strange (belongs e s) (leads e) f h
+
+-- with the lengths of the lists
+pub record Begun (e : Event) (s t : Stage) (l : Lent) : Type 0 where
+  pub belonged : belongs e s ≡ true
+  pub long : ample l ≡ true
+  pub led : t ≡ leads e
+
+by_both : (b a : Bool) (t s : Stage) → with_value (first (unless b WrongStage ∷ unless a ShortList ∷ [])) t ≡ Ok s → (b ≡ true) × (a ≡ true) × (s ≡ t)
+by_both true true t s h = (refl, refl, cc)
+by_both true false t s h = absurd (let z : ◌≡◌ {A = ℕ} 0 1 = cc in omega arith)
+by_both false a t s h = absurd (let z : ◌≡◌ {A = ℕ} 0 1 = cc in omega arith)
+
+pub passed_by : (e : Event) (s : Stage) (l : Lent) (t : Stage) → begun e s l ≡ Ok t → Begun e s t l
+passed_by e s l t h = let q = by_both (belongs e s) (ample l) (leads e) t h in record { belonged = q.0; long = q.1; led = q.2 }
+
+-- what these two refuse is refused by all checks that begin with them, and not for a clash
+by_one : (b a : Bool) (os : List (Option PressFault)) (t : Stage) (f : PressFault) → with_value (first (unless b WrongStage ∷ unless a ShortList ∷ [])) t ≡ Err f →
+    (first (unless b WrongStage ∷ unless a ShortList ∷ os) ≡ Some f) × (f ≡ Clash → ⊥)
+by_one true true os t f h = absurd (let z : ◌≡◌ {A = ℕ} 0 1 = cc in omega arith)
+by_one true false os t f h = let q : ShortList ≡ f = cc in (ap (λ g. Some g) q, λ c. let z : ◌≡◌ {A = ℕ} 0 1 = cc in omega arith)
+by_one false a os t f h = let q : WrongStage ≡ f = cc in (ap (λ g. Some g) q, λ c. let z : ◌≡◌ {A = ℕ} 0 1 = cc in omega arith)
+
+pub barred_by : (e : Event) (s : Stage) (l : Lent) (os : List (Option PressFault)) (f : PressFault) → begun e s l ≡ Err f →
+    (first (unless (belongs e s) WrongStage ∷ unless (ample l) ShortList ∷ os) ≡ Some f) × (f ≡ Clash → ⊥)
+barred_by e s l os f h = by_one (belongs e s) (ample l) os (leads e) f h
 
 -- 3. runs
 

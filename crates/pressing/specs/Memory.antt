@@ -5,6 +5,8 @@ use Rattle.graph.specs.declared.rows.Row.{Row}
 use Rattle.graph.specs.declared.rows.Edge.{Edge}
 use Rattle.graph.specs.declared.rows.Vertex.{Vertex}
 use Rattle.runs.specs.Runs.{Lent}
+use Rattle.std.specs.Borrow.{MutBor}
+use Rattle.pressing.specs.declared.lists.Lists.{Lists}
 
 pub record Memory (N : Type 0) : Type 0 where
   pub rows : List (Row N)
@@ -17,6 +19,14 @@ pub record Memory (N : Type 0) : Type 0 where
 
 abbrev pub memory : {N : Type 0} → List (Row N) → List ℕ → List Edge → List Vertex → List Waiting → List ℕ → List (Option ℕ) → Memory N
 memory rows tables edges vertices heap ordered slots = record { rows = rows; tables = tables; edges = edges; vertices = vertices; heap = heap; ordered = ordered; slots = slots }
+
+-- what lists that are lent to a call hold
+abbrev pub held : {N : Type 0} → Lists N → Memory N
+held l = memory l.rows.now l.tables.now l.edges.now l.vertices.now l.heap.now l.ordered.now l.slots.now
+
+-- what the call leaves in them
+abbrev pub left_in : {N : Type 0} → MutBor (List (Row N)) × (MutBor (List ℕ) × (MutBor (List Edge) × (MutBor (List Vertex) × (MutBor (List Waiting) × (MutBor (List ℕ) × (MutBor (List (Option ℕ)) × Unit {0})))))) → Memory N
+left_in l = memory l.0.now l.1.0.now l.1.1.0.now l.1.1.1.0.now l.1.1.1.1.0.now l.1.1.1.1.1.0.now l.1.1.1.1.1.1.0.now
 
 -- of each list its length
 abbrev pub lent : {N : Type 0} → Memory N → Lent

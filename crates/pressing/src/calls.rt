@@ -1,8 +1,8 @@
 ghost use Rattle.std.specs.Prelude.{◌≡◌, ℕ, ◌≤◌, List, length};
 ghost use Rattle.runs.specs.Runs.{beginning};
-ghost use Rattle.pressing.specs.Memory.{Memory, memory};
+ghost use Rattle.pressing.specs.Memory.{Memory, lent, held, left_in};
 ghost use Rattle.pressing.specs.Left.{Left};
-ghost use Rattle.pressing.specs.Stages.{next_stage};
+ghost use Rattle.pressing.specs.Stages.{next_stage, begun};
 ghost use Rattle.pressing.specs.Calls.{EnterDone, MapDone, OrderDone, FitDone, ReopenDone, SealDone};
 
 use crate::answer::Fit;
@@ -55,19 +55,27 @@ impl<N: Kind> Pressing<N> {
         }
     }
 
-    /// Adds a name with its setting, in the row after those in use.
-    pub fn enter(
-        &mut self,
-        lists: Lists<'_, '_, '_, '_, '_, '_, '_, N>,
-        name: N,
-        setting: u16,
-    ) -> Result<(), PressFault>
-        ensures { EnterDone N.spelling name setting self.old (memory lists.entry.rows.now lists.entry.tables.now lists.entry.edges.now lists.entry.vertices.now lists.entry.heap.now lists.entry.ordered.now lists.entry.slots.now) result self.new (memory lists.exit.0.now lists.exit.1.0.now lists.exit.1.1.0.now lists.exit.1.1.1.0.now lists.exit.1.1.1.1.0.now lists.exit.1.1.1.1.1.0.now lists.exit.1.1.1.1.1.1.0.now) }
+    // The same for a call that is lent lists, refused too if one of them is too short.
+    fn begin(&self, event: Event, lists: &Lists<'_, N>) -> Result<Stage, PressFault>
+        ensures { result ≡ begun event self.now.stage (lent (held lists.now)) }
     {
-        let next = self.after(Event::Enter)?;
+        let next = self.after(event)?;
         if !lists.are_ample() {
             return Err(PressFault::ShortList);
         }
+        Ok(next)
+    }
+
+    /// Adds a name with its setting, in the row after those in use.
+    pub fn enter(
+        &mut self,
+        lists: Lists<'_, N>,
+        name: N,
+        setting: u16,
+    ) -> Result<(), PressFault>
+        ensures { EnterDone N.spelling name setting self.old (held lists.entry) result self.new (left_in lists.exit) }
+    {
+        let next = self.begin(Event::Enter, &lists)?;
         let Lists { rows, .. } = lists;
         let count = self.count;
         if count >= MOST_NAMES {
@@ -85,16 +93,13 @@ impl<N: Kind> Pressing<N> {
     /// Fills the tables from the seed, and writes the graph of the names into edges and vertices.
     pub fn map(
         &mut self,
-        lists: Lists<'_, '_, '_, '_, '_, '_, '_, N>,
+        lists: Lists<'_, N>,
         r: u16,
         seed: u32,
     ) -> Result<(), PressFault>
-        ensures { MapDone N.spelling r seed self.old (memory lists.entry.rows.now lists.entry.tables.now lists.entry.edges.now lists.entry.vertices.now lists.entry.heap.now lists.entry.ordered.now lists.entry.slots.now) result self.new (memory lists.exit.0.now lists.exit.1.0.now lists.exit.1.1.0.now lists.exit.1.1.1.0.now lists.exit.1.1.1.1.0.now lists.exit.1.1.1.1.1.0.now lists.exit.1.1.1.1.1.1.0.now) }
+        ensures { MapDone N.spelling r seed self.old (held lists.entry) result self.new (left_in lists.exit) }
     {
-        let next = self.after(Event::Map)?;
-        if !lists.are_ample() {
-            return Err(PressFault::ShortList);
-        }
+        let next = self.begin(Event::Map, &lists)?;
         let Lists {
             rows,
             tables,
@@ -113,13 +118,10 @@ impl<N: Kind> Pressing<N> {
 
     /// Writes the order of the vertices, sets all values to 0 and empties all slots; answers how many
     /// vertices are ordered.
-    pub fn order(&mut self, lists: Lists<'_, '_, '_, '_, '_, '_, '_, N>) -> Result<u16, PressFault>
-        ensures { OrderDone N.spelling self.old (memory lists.entry.rows.now lists.entry.tables.now lists.entry.edges.now lists.entry.vertices.now lists.entry.heap.now lists.entry.ordered.now lists.entry.slots.now) result self.new (memory lists.exit.0.now lists.exit.1.0.now lists.exit.1.1.0.now lists.exit.1.1.1.0.now lists.exit.1.1.1.1.0.now lists.exit.1.1.1.1.1.0.now lists.exit.1.1.1.1.1.1.0.now) }
+    pub fn order(&mut self, lists: Lists<'_, N>) -> Result<u16, PressFault>
+        ensures { OrderDone N.spelling self.old (held lists.entry) result self.new (left_in lists.exit) }
     {
-        let next = self.after(Event::Order)?;
-        if !lists.are_ample() {
-            return Err(PressFault::ShortList);
-        }
+        let next = self.begin(Event::Order, &lists)?;
         let Lists {
             edges,
             vertices,
@@ -140,16 +142,13 @@ impl<N: Kind> Pressing<N> {
     /// slots of its names are filled.
     pub fn fit<W: Way>(
         &mut self,
-        lists: Lists<'_, '_, '_, '_, '_, '_, '_, N>,
+        lists: Lists<'_, N>,
         way: &W,
     ) -> Result<Fit, PressFault>
-        ensures { FitDone N.spelling (W.meaning way.now) self.old (memory lists.entry.rows.now lists.entry.tables.now lists.entry.edges.now lists.entry.vertices.now lists.entry.heap.now lists.entry.ordered.now lists.entry.slots.now) result self.new (memory lists.exit.0.now lists.exit.1.0.now lists.exit.1.1.0.now lists.exit.1.1.1.0.now lists.exit.1.1.1.1.0.now lists.exit.1.1.1.1.1.0.now lists.exit.1.1.1.1.1.1.0.now) }
+        ensures { FitDone N.spelling (W.meaning way.now) self.old (held lists.entry) result self.new (left_in lists.exit) }
     {
         let level = self.level;
-        let next = self.after(Event::Fit(level + 1 >= self.levels))?;
-        if !lists.are_ample() {
-            return Err(PressFault::ShortList);
-        }
+        let next = self.begin(Event::Fit(level + 1 >= self.levels), &lists)?;
         let Lists {
             edges,
             vertices,
@@ -185,15 +184,12 @@ impl<N: Kind> Pressing<N> {
     /// Writes the plate string at the start of the memory, and answers its length.
     pub fn seal(
         &mut self,
-        lists: Lists<'_, '_, '_, '_, '_, '_, '_, N>,
+        lists: Lists<'_, N>,
         string: &mut [u8],
     ) -> Result<usize, PressFault>
-        ensures { SealDone N.spelling N.number self.old (memory lists.entry.rows.now lists.entry.tables.now lists.entry.edges.now lists.entry.vertices.now lists.entry.heap.now lists.entry.ordered.now lists.entry.slots.now) string.old result self.new (memory lists.exit.0.now lists.exit.1.0.now lists.exit.1.1.0.now lists.exit.1.1.1.0.now lists.exit.1.1.1.1.0.now lists.exit.1.1.1.1.1.0.now lists.exit.1.1.1.1.1.1.0.now) string.new }
+        ensures { SealDone N.spelling N.number self.old (held lists.entry) string.old result self.new (left_in lists.exit) string.new }
     {
-        let next = self.after(Event::Seal)?;
-        if !lists.are_ample() {
-            return Err(PressFault::ShortList);
-        }
+        let next = self.begin(Event::Seal, &lists)?;
         let Lists {
             rows,
             vertices,

@@ -1,6 +1,6 @@
 ghost use Rattle.std.specs.Prelude.{◌≡◌};
 ghost use Rattle.runs.specs.Runs.{ample};
-ghost use Rattle.pressing.specs.Memory.{memory, lent};
+ghost use Rattle.pressing.specs.Memory.{held, lent};
 
 use graph::rows::{Edge, Row, Vertex};
 use hashing::tables::TABLE_NUMBERS;
@@ -14,14 +14,14 @@ pub const MOST_VERTICES: usize = 2048;
 
 /// The work lists that a caller lends to a call.
 #[derive(Drop)]
-pub struct Lists<'r, 't, 'e, 'v, 'h, 'o, 's, N> {
-    pub rows: &'r mut [Row<N>],
-    pub tables: &'t mut [u32],
-    pub edges: &'e mut [Edge],
-    pub vertices: &'v mut [Vertex],
-    pub heap: &'h mut [Waiting],
-    pub ordered: &'o mut [u16],
-    pub slots: &'s mut [Option<u16>],
+pub struct Lists<'a, N> {
+    pub rows: &'a mut [Row<N>],
+    pub tables: &'a mut [u32],
+    pub edges: &'a mut [Edge],
+    pub vertices: &'a mut [Vertex],
+    pub heap: &'a mut [Waiting],
+    pub ordered: &'a mut [u16],
+    pub slots: &'a mut [Option<u16>],
 }
 
 /// The lengths of the work lists that are lent.
@@ -36,10 +36,10 @@ pub struct Lengths {
     pub slots: usize,
 }
 
-impl<N> Lists<'_, '_, '_, '_, '_, '_, '_, N> {
+impl<N> Lists<'_, N> {
     /// Whether no work list is too short.
     pub fn are_ample(&self) -> bool
-        ensures { result ≡ ample (lent (memory self.now.rows.now self.now.tables.now self.now.edges.now self.now.vertices.now self.now.heap.now self.now.ordered.now self.now.slots.now)) }
+        ensures { result ≡ ample (lent (held self.now)) }
     {
         MOST_NAMES <= self.rows.len()
             && TABLE_NUMBERS <= self.tables.len()
