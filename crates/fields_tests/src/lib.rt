@@ -20,17 +20,18 @@ mod tests {
         let sizes = Sizes::new(1, 1)?;
         let name = PointName::new(b"A")?;
         let mut memory = [0xFF; 48];
-        assert!(rt; write_record(&mut memory, sizes, 0, 300, &name));
-        assert!(rt; write_value(&mut memory, 1, 0));
-        assert!(rt; write_value(&mut memory, 0, 0));
-        assert!(rt; write_values_head(&mut memory, sizes));
-        assert!(rt;
+        assert_eq!(rt; write_record(&mut memory, sizes, 0, 300, &name), Ok(()));
+        assert_eq!(rt; write_value(&mut memory, 1, 0), Ok(()));
+        assert_eq!(rt; write_value(&mut memory, 0, 0), Ok(()));
+        assert_eq!(rt; write_values_head(&mut memory, sizes), Ok(()));
+        assert_eq!(rt;
             write_header(
                 &mut memory,
                 <PointName as names::kind::Kind>::number(),
                 sizes,
                 Seed::new(1)?
-            )
+            ),
+            Ok(())
         );
         assert_eq!(rt; memory, *NAME_A);
         Ok(())

@@ -1,9 +1,11 @@
 -- Where a plate stands in the lists, its parts are written one after the other until all stand in memory.
 use Rattle.std.proofs.Common.{◌≡◌, ℕ, zero, suc, ◌*◌, ◌<◌, ◌≤◌, Bool, true, false, ltb, ◌⊎◌, List, map, length, get_or, take, drop, None, Option, sym, refl, ap, ◌∙◌, subst, inl, inr, arith}
 use Rattle.std.proofs.lemmas.Bool.{ltb-true, lt-ltb, cases_eq, cond-true}
+use Rattle.std.proofs.lemmas.List.{get_or-take, length-take-le}
 use Rattle.runs.specs.Plates.{Entry, Plate, two, record_field, plate_string}
 use Rattle.graph.specs.declared.rows.Row.{Row}
 use Rattle.graph.specs.declared.rows.Vertex.{Vertex}
+use Rattle.graph.specs.Chains.{row, bare}
 use Rattle.fields.specs.Writing.{written}
 use Rattle.fields.specs.Parts.{value_place, record_place, no_entry, Part, the_header, the_values_head, value_of, record_in, Has, Measured, Stands, Those}
 use Rattle.fields.proofs.Standing.{none_stands, one_more_stands, all_are_the_string}
@@ -103,21 +105,38 @@ exact_sealed spell few kind n r seed rows vertices slots old room p laid =
     let own : At (length p.records) p.r p.seed = string_sealed spell few kind p rows vertices slots old in
     subst (λ x. At x r seed) laid.same_n (subst (λ x. At (length p.records) x seed) laid.same_r (subst (λ x. At (length p.records) p.r x) laid.same_seed own)) laid room
 
+-- the writes of a list read no further than its front
+values_front : (vertices : List Vertex) (m k : ℕ) (memory : List ℕ) → k ≤ m → values_written (take m vertices) k memory ≡ values_written vertices k memory
+values_front vertices m zero memory h = refl
+values_front vertices m (suc k) memory h =
+    let e : row (take m vertices) k ≡ row vertices k = get_or-take m vertices k bare (omega arith) in
+    λ i. written (value_place k) (two (e i).value) (values_front vertices m k memory (omega arith) i)
+
+records_front : {N : Type 0} (spell : N → List ℕ) (rows : List (Row N)) (slots : List (Option ℕ)) (r m k : ℕ) (memory : List ℕ) → k ≤ m → records_written spell rows (take m slots) r k memory ≡ records_written spell rows slots r k memory
+records_front spell rows slots r m zero memory h = refl
+records_front spell rows slots r m (suc k) memory h =
+    let e : get_or (take m slots) k None ≡ get_or slots k None = get_or-take m slots k None (omega arith) in
+    λ i. slot_written spell rows r k (e i) (records_front spell rows slots r m k memory (omega arith) i)
+
 -- what the writes of the front, of the values and of the records come to
-pub all_written : {N : Type 0} (spell : N → List ℕ) → ((x : N) → length (spell x) ≤ 16) → (kind n r seed : ℕ) (rows : List (Row N)) (vertices : List Vertex) (slots : List (Option ℕ)) {m m₁ m₂ m₃ : List ℕ} (n' r' answer : ℕ) →
-    n' ≡ n → r' ≡ r → true ≡ seal_fits n' r' (length m) (length vertices) (length slots) →
-    m₁ ≡ front_written kind n r seed m → m₂ ≡ values_written vertices (2 * r') m₁ → m₃ ≡ records_written spell rows slots r n m₂ → answer ≡ seal_length n' r' →
+pub all_written : {N : Type 0} (spell : N → List ℕ) → ((x : N) → length (spell x) ≤ 16) → (kind n r seed : ℕ) (rows : List (Row N)) (vertices : List Vertex) (slots : List (Option ℕ)) {m m₁ m₂ m₃ : List ℕ} (n' r' : ℕ) {answer : ℕ} →
+    n' ≡ n → r' ≡ r → seal_fits n r (length m) (length vertices) (length slots) ≡ true →
+    m₁ ≡ front_written kind n r seed m → m₂ ≡ values_written (take (2 * r') vertices) (length (take (2 * r') vertices)) m₁ →
+    m₃ ≡ records_written spell rows (take n' slots) r (length (take n' slots)) m₂ → answer ≡ seal_length n r →
     SealWritten (seal_fits n r (length m) (length vertices) (length slots)) kind spell n r seed rows vertices slots m m₃ answer
-all_written spell few kind n r seed rows vertices slots {m} {m₁} {m₂} {m₃} n' r' answer en er true_fits first second third whole =
-    let fits : seal_fits n r (length m) (length vertices) (length slots) ≡ true = sym (true_fits ∙ (λ i. seal_fits (en i) (er i) (length m) (length vertices) (length slots))) in
-    let room = (fitted n r (length m) (length vertices) (length slots) fits).room in
-    let all : m₃ ≡ sealed kind spell n r seed rows vertices slots m = third ∙ ap (records_written spell rows slots r n) (second ∙ (λ i. values_written vertices (2 * er i) (first i))) in
-    let kept = kept_sealed n r m room spell few rows kind seed vertices slots in
+all_written spell few kind n r seed rows vertices slots {m} {m₁} {m₂} {m₃} n' r' en er fits first second third whole =
+    let f = fitted n r (length m) (length vertices) (length slots) fits in
+    let lv : length (take (2 * r') vertices) ≡ 2 * r = let e : 2 * r' ≡ 2 * r = omega arith in ap (λ k. length (take k vertices)) e ∙ length-take-le (2 * r) vertices f.vertices_there in
+    let ls : length (take n' slots) ≡ n = ap (λ k. length (take k slots)) en ∙ length-take-le n slots f.slots_there in
+    let values : m₂ ≡ values_written vertices (2 * r) m₁ = second ∙ ap (λ k. values_written (take (2 * r') vertices) k m₁) lv ∙ values_front vertices (2 * r') (2 * r) m₁ (omega arith) in
+    let records : m₃ ≡ records_written spell rows slots r n m₂ = third ∙ ap (λ k. records_written spell rows (take n' slots) r k m₂) ls ∙ records_front spell rows slots r n' n m₂ (omega arith) in
+    let all : m₃ ≡ sealed kind spell n r seed rows vertices slots m = records ∙ ap (records_written spell rows slots r n) (values ∙ ap (values_written vertices (2 * r)) first) in
+    let kept = kept_sealed n r m f.room spell few rows kind seed vertices slots in
     record {
       long = fits;
-      whole = whole ∙ (λ i. seal_length (en i) (er i));
+      whole = whole;
       same_length = ap length all ∙ kept.same_length;
       behind = ap (drop (seal_length n r)) all ∙ kept.behind;
       written_parts = all;
-      exact = λ p laid. ap (take (seal_length n r)) all ∙ exact_sealed spell few kind n r seed rows vertices slots m room p laid;
+      exact = λ p laid. ap (take (seal_length n r)) all ∙ exact_sealed spell few kind n r seed rows vertices slots m f.room p laid;
     }

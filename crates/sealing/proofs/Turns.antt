@@ -1,14 +1,13 @@
 -- One write more.
-use Rattle.std.proofs.Common.{◌≡◌, ℕ, ◌+◌, ◌<◌, ◌≤◌, ◌&&◌, ltb, leb, List, map, length, get_or, Some, None, Option, sym, ap, ◌∙◌, add-one}
-use Rattle.std.proofs.lemmas.List.{get_or-map}
+use Rattle.std.proofs.Common.{◌≡◌, ℕ, ◌+◌, ◌<◌, ◌≤◌, ◌&&◌, ltb, leb, List, length, get_or, None, Option, sym, ap, ◌∙◌, add-one}
 use Rattle.std.proofs.lemmas.Bool.{lt-ltb, le-leb, and_from, cond-true}
-use Rattle.runs.specs.Plates.{Entry, two, record_field}
+use Rattle.runs.specs.Plates.{two}
 use Rattle.graph.specs.declared.rows.Row.{Row}
 use Rattle.graph.specs.declared.rows.Vertex.{Vertex}
 use Rattle.graph.specs.Chains.{row}
 use Rattle.fields.specs.Writing.{written, written_if}
-use Rattle.fields.specs.Parts.{value_place, record_place, no_entry}
-use Rattle.sealing.specs.Sealing.{row_entry, values_written, slot_written, records_written}
+use Rattle.fields.specs.Parts.{value_place}
+use Rattle.sealing.specs.Sealing.{values_written, slot_written, records_written}
 
 -- a write whose two tests are met
 met : {m' : List ℕ} (m : List ℕ) (at i to end : ℕ) (xs : List ℕ) → i < to → end ≤ length m → m' ≡ written_if (ltb i to && leb end (length m)) at xs m → m' ≡ written at xs m
@@ -23,19 +22,7 @@ value_more m vertices v old h l p q =
     ap (λ k. values_written vertices k old) (sym (add-one v))
 
 module _ {N : Type 0} (spell : N → List ℕ) (rows : List (Row N)) where
-  pub slot_put : {m' : List ℕ} (m : List ℕ) (n r k i j : ℕ) (x : Row N) (o : Option ℕ) → k < n → record_place r k + 22 ≤ length m → o ≡ Some i → j ≡ i → j < length rows → x ≡ get_or rows j x →
-      m' ≡ written_if (ltb k n && leb (record_place r k + 22) (length m)) (record_place r k) (record_field (row_entry spell x)) m → m' ≡ slot_written spell rows r k o m
-  slot_put m n r k i j x o h l is same low at q =
-      let put = λ (e : Entry). written (record_place r k) (record_field e) m in
-      let entry : row_entry spell x ≡ get_or (map (row_entry spell) rows) j no_entry = ap (row_entry spell) at ∙ sym (get_or-map (row_entry spell) rows j x no_entry low) in
-      met m (record_place r k) k n (record_place r k + 22) (record_field (row_entry spell x)) h l q ∙ ap put entry ∙
-      sym (cond-true (ltb j (length rows)) (put (get_or (map (row_entry spell) rows) j no_entry)) m (lt-ltb j (length rows) low)) ∙
-      ap (λ i. slot_written spell rows r k (Some i) m) same ∙ ap (λ o. slot_written spell rows r k o m) (sym is)
-
   pub record_more : {m m' : List ℕ} (slots : List (Option ℕ)) (r k : ℕ) (old : List ℕ) → m ≡ records_written spell rows slots r k old →
       m' ≡ slot_written spell rows r k (get_or slots k None) m → m' ≡ records_written spell rows slots r (k + 1) old
   record_more slots r k old p q =
       q ∙ ap (slot_written spell rows r k (get_or slots k None)) p ∙ ap (λ j. records_written spell rows slots r j old) (sym (add-one k))
-
-  pub record_all : {m : List ℕ} (slots : List (Option ℕ)) (r k n : ℕ) (old : List ℕ) → k ≡ n → m ≡ records_written spell rows slots r k old → m ≡ records_written spell rows slots r n old
-  record_all slots r k n old e p = p ∙ ap (λ j. records_written spell rows slots r j old) e

@@ -1,45 +1,50 @@
 ghost use Rattle.std.specs.Prelude.{◌≡◌, ◌+◌, ◌*◌, ◌<◌, ◌≤◌, length, MatchOption};
 ghost use Rattle.sealing.specs.Sealing.{seal_length, seal_fits, front_written, values_written, slot_written, records_written, SealRefused, SealWritten};
 
+use fields::fault::WriteFault;
 use fields::write::{write_header, write_record, write_value, write_values_head};
 use graph::rows::{Row, Vertex};
 use hashing::seed::Seed;
 use hashing::sizes::Sizes;
 use names::kind::Kind;
 
-/// The length of the string of n records and 2r values.
-fn string_length(n: usize, r: usize) -> usize
-    requires { (n ≤ 1024) × (r ≤ 1024) }
-    ensures { result ≡ seal_length n r }
+/// The length of the string of a plate of these sizes.
+fn string_length(sizes: Sizes) -> usize
+    ensures { result ≡ seal_length sizes.n sizes.r }
 {
-    21 + 4 * r + 22 * n
+    21 + 4 * usize::from(sizes.r()) + 22 * usize::from(sizes.n())
 }
 
 /// Whether memory of this length has room for the string, and the lists have what it takes.
-fn fits(n: usize, r: usize, memory: usize, vertices: usize, slots: usize) -> bool
-    requires { (n ≤ 1024) × (r ≤ 1024) }
-    ensures { result ≡ seal_fits n r memory vertices slots }
+fn fits(sizes: Sizes, memory: usize, vertices: usize, slots: usize) -> bool
+    ensures { result ≡ seal_fits sizes.n sizes.r memory vertices slots }
 {
-    string_length(n, r) <= memory && 2 * r <= vertices && n <= slots
+    string_length(sizes) <= memory
+        && 2 * usize::from(sizes.r()) <= vertices
+        && usize::from(sizes.n()) <= slots
 }
 
 /// The fields of kind, sizes and seed, and the head of the values field.
-fn write_front<N: Kind>(sizes: Sizes, seed: Seed, memory: &mut [u8])
+fn write_front<N: Kind>(sizes: Sizes, seed: Seed, memory: &mut [u8]) -> Result<(), WriteFault>
     requires { 21 ≤ length memory.old }
-    ensures { memory.new ≡ front_written N.number sizes.n sizes.r seed.value memory.old }
+    ensures done { result ≡ Ok tt }
+    ensures memory { memory.new ≡ front_written N.number sizes.n sizes.r seed.value memory.old }
 {
-    let _ = write_header(memory, N::number(), sizes, seed);
-    let _ = write_values_head(memory, sizes);
+    write_header(memory, N::number(), sizes, seed)?;
+    write_values_head(memory, sizes)
 }
 
-/// The values of the first m vertices.
-fn write_values(vertices: &[Vertex], m: usize, memory: &mut [u8])
-    requires { (m ≤ 2048) × (m ≤ length vertices.now) × (21 + 2 * m ≤ length memory.old) }
-    ensures { memory.new ≡ values_written vertices.now m memory.old }
+/// The values of the vertices.
+fn write_values(vertices: &[Vertex], memory: &mut [u8]) -> Result<(), WriteFault>
+    requires few { length vertices.now ≤ 2048 }
+    requires room { 21 + 2 * length vertices.now ≤ length memory.old }
+    ensures done { result ≡ Ok tt }
+    ensures memory { memory.new ≡ values_written vertices.now (length vertices.now) memory.old }
 {
-    for v in 0..m {
-        let _ = write_value(memory, v, vertices[v].value);
+    for (index, vertex) in vertices.iter().enumerate() {
+        write_value(memory, index, vertex.value)?;
     }
+    Ok(())
 }
 
 /// The record of the row that a slot holds, in the field of the slot; nothing if there is no such row.
@@ -49,29 +54,34 @@ fn write_slot<N: Kind>(
     sizes: Sizes,
     slot: usize,
     memory: &mut [u8],
-)
-    requires { (slot < sizes.n) × (seal_length sizes.n sizes.r ≤ length memory.old) }
-    ensures { memory.new ≡ slot_written N.spelling rows.now sizes.r slot held memory.old }
+) -> Result<(), WriteFault>
+    requires there { slot < sizes.n }
+    requires room { seal_length sizes.n sizes.r ≤ length memory.old }
+    ensures done { result ≡ Ok tt }
+    ensures memory { memory.new ≡ slot_written N.spelling rows.now sizes.r slot held memory.old }
 {
-    let Some(i) = held else {
-        return;
+    let Some(row) = held.and_then(|i| rows.get(usize::from(i))) else {
+        return Ok(());
     };
-    let i = usize::from(i);
-    if i < rows.len() {
-        let row = &rows[i];
-        let _ = write_record(memory, sizes, slot, row.setting, &row.name);
-    }
+    write_record(memory, sizes, slot, row.setting, &row.name)
 }
 
-/// The records of the rows that the first n slots hold, each in the field of its slot.
-fn write_records<N: Kind>(rows: &[Row<N>], slots: &[Option<u16>], sizes: Sizes, memory: &mut [u8])
-    requires { (sizes.n ≤ length slots.now) × (seal_length sizes.n sizes.r ≤ length memory.old) }
-    ensures { memory.new ≡ records_written N.spelling rows.now slots.now sizes.r sizes.n memory.old }
+/// The records of the rows that the slots hold, each in the field of its slot.
+fn write_records<N: Kind>(
+    rows: &[Row<N>],
+    slots: &[Option<u16>],
+    sizes: Sizes,
+    memory: &mut [u8],
+) -> Result<(), WriteFault>
+    requires there { length slots.now ≤ sizes.n }
+    requires room { seal_length sizes.n sizes.r ≤ length memory.old }
+    ensures done { result ≡ Ok tt }
+    ensures memory { memory.new ≡ records_written N.spelling rows.now slots.now sizes.r (length slots.now) memory.old }
 {
-    let n = usize::from(sizes.n());
-    for k in 0..n {
-        write_slot(rows, slots[k], sizes, k, memory);
+    for (slot, held) in slots.iter().enumerate() {
+        write_slot(rows, *held, sizes, slot, memory)?;
     }
+    Ok(())
 }
 
 /// Writes the string of a plate at the start of the memory: the kind number, the sizes, the seed,
@@ -90,13 +100,13 @@ pub fn write_plate<N: Kind>(
 {
     let n = usize::from(sizes.n());
     let r = usize::from(sizes.r());
-    if !fits(n, r, memory.len(), vertices.len(), slots.len()) {
+    if !fits(sizes, memory.len(), vertices.len(), slots.len()) {
         return None;
     }
-    write_front::<N>(sizes, seed, memory);
-    write_values(vertices, 2 * r, memory);
-    write_records(rows, slots, sizes, memory);
-    Some(string_length(n, r))
+    write_front::<N>(sizes, seed, memory).ok()?;
+    write_values(&vertices[..2 * r], memory).ok()?;
+    write_records(rows, &slots[..n], sizes, memory).ok()?;
+    Some(string_length(sizes))
 }
 
 #[cfg(test)]
