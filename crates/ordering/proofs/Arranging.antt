@@ -15,6 +15,7 @@ use Rattle.graph.specs.declared.rows.Place.{Place}
 use Rattle.graph.specs.declared.rows.Place.TheVariants.{Unseen, Waits, At}
 use Rattle.graph.specs.Chains.{bare, Graph, row}
 use Rattle.ordering.specs.Queue.{waiting, Stands, Queued, Replaced, Chosen, Placed, OrderedGraph, Begun, at_place, fresh}
+use Rattle.graph.proofs.Walked.{graph_whole}
 use Rattle.ordering.proofs.Queues.{replaced_one}
 use Rattle.ordering.proofs.Choosing.{joined_degree, placed}
 
@@ -120,3 +121,7 @@ module _ (es : List Triple) (r : ℕ) (edges : List Edge) (ordered : List ℕ) (
       listed = is_order;
       placed = λ v l. subst (λ ws. Placed ws v (row vertices v).place) is_order (place_of v l (row vertices v).place (a.queued.stands v l));
     }
+
+-- an order is that of the edges which are read
+pub ordered_whole : (es : List Triple) (r : ℕ) (edges : List Edge) (n : ℕ) (vertices : List Vertex) (ordered : List ℕ) (k : ℕ) → length es ≤ n → OrderedGraph es r (take n edges) vertices ordered k → OrderedGraph es r edges vertices ordered k
+ordered_whole es r edges n vertices ordered k l o = record { graph = graph_whole es r edges vertices n l o.graph; counted = o.counted; listed = o.listed; placed = o.placed }

@@ -1,9 +1,12 @@
 -- The search for the vertex that a new part of the order begins with.
-use Rattle.std.proofs.Common.{◌≡◌, ℕ, ◌+◌, ◌<◌, ◌≤◌, Bool, true, false, List, is_some, Some, None, Option, sym, refl, ap, ◌∙◌, subst, inl, inr, arith}
-use Rattle.std.proofs.lemmas.Bool.{cases_lt, cases_eq, both_ways}
+use Rattle.std.proofs.Common.{◌≡◌, ℕ, ◌+◌, ◌-◌, ◌<◌, ◌≤◌, Bool, true, false, ◌&&◌, eqb, List, length, take, drop, is_some, Some, None, Option, sym, refl, ap, ◌∙◌, subst, inl, inr, arith}
+use Rattle.std.specs.List.{AllWithin, HoldsAt}
+use Rattle.std.proofs.lemmas.Bool.{cases_lt, cases_eq, both_ways, and_parts, and_from, eqb-true, eq-eqb}
+use Rattle.std.proofs.lemmas.List.{get_or-take, get_or-drop, length-drop, length-take-le}
 use Rattle.runs.specs.Order.{Best}
 use Rattle.graph.specs.declared.rows.Vertex.{Vertex}
-use Rattle.ordering.specs.Queue.{Greatest, Led, Bounded, Resumed, Replaced, degree_at, unseen_at}
+use Rattle.graph.specs.Chains.{bare, row}
+use Rattle.ordering.specs.Queue.{is_unseen, Greatest, Led, Bounded, Resumed, Replaced, degree_at, unseen_at}
 
 abbrev pub most_of : (ℕ → ℕ) → Option ℕ → ℕ
 most_of weight None = 0
@@ -49,6 +52,10 @@ module _ (weight : ℕ → ℕ) (ok : ℕ → Bool) where
   pub so_far_kept : (v : ℕ) (o o' : Option ℕ) (most most' : ℕ) → Greatest weight ok (v + 1) o → most ≡ most_of weight o → o' ≡ o → most' ≡ most → SoFar (v + 1) o' most'
   so_far_kept v o o' most most' h g e f = subst (λ p. SoFar (v + 1) p most') (sym e) (h, f ∙ g)
 
+-- a vertex to which a search for this degree comes
+abbrev pub hit : ℕ → Vertex → Bool
+hit most x = is_unseen x.place && eqb x.degree most
+
 -- the search that goes on
 module _ (m : ℕ) (vertices : List Vertex) where
   pub led_best : (b v : ℕ) → Led m vertices b → v < m → unseen_at vertices v ≡ true → degree_at vertices v ≡ degree_at vertices b →
@@ -63,6 +70,17 @@ module _ (m : ℕ) (vertices : List Vertex) where
       | inr x ↦ x
     ];
   }
+
+  pub resumed_best : (b ahead : ℕ) → m ≡ length vertices → Led m vertices b → (ahead < length (drop b vertices)) × HoldsAt (λ x. hit (degree_at vertices b) x ≡ true) (drop b vertices) ahead × AllWithin (λ x. hit (degree_at vertices b) x ≡ false) (drop b vertices) 0 ahead → Best (degree_at vertices) (unseen_at vertices) m (b + ahead)
+  resumed_best b ahead e h f =
+      let most = degree_at vertices b in
+      let p = and_parts (unseen_at vertices (b + ahead)) (eqb (degree_at vertices (b + ahead)) most) (sym (ap (hit most) (get_or-drop b vertices ahead bare)) ∙ f.1 bare) in
+      led_best b (b + ahead) h (omega (arith, f.0, length-drop b vertices)) p.0 (eqb-true (degree_at vertices (b + ahead)) most p.1)
+      (λ u x y o w.
+      let z : b + (u - b) ≡ u = omega arith in
+      let no = f.2 (u - b) bare (omega arith) (omega arith) in
+      both_ways (hit most (row vertices u)) (ap (λ i. hit most (row vertices i)) (sym z) ∙ sym (ap (hit most) (get_or-drop b vertices (u - b) bare)) ∙ no)
+      (and_from (unseen_at vertices u) (eqb (degree_at vertices u) most) o (eq-eqb (degree_at vertices u) most w)))
 
   pub greatest_bounds : (o : Option ℕ) → Greatest (degree_at vertices) (unseen_at vertices) m o → Bounded m vertices o
   greatest_bounds None h = tt
@@ -81,11 +99,31 @@ module _ (m : ℕ) (vertices : List Vertex) where
     lowest = λ u a o w. h.lowest u a (p.unseen u o) (sym (p.degree u) ∙ w ∙ p.degree b);
   }
 
-  abbrev pub Passed : ℕ → ℕ → Type 0
-  Passed b v = (u : ℕ) → b ≤ u → u < v → unseen_at vertices u ≡ true → degree_at vertices u ≡ degree_at vertices b → ⊥
+-- the search over the first m vertices alone
+module _ (m k : ℕ) (vertices : List Vertex) (e : k ≡ m) (there : m ≤ length vertices) where
+  abbrev part : List Vertex
+  part = take k vertices
 
-  pub passed_more : (b v : ℕ) → Passed b v → (unseen_at vertices v ≡ true → degree_at vertices v ≡ degree_at vertices b → ⊥) → Passed b (v + 1)
-  passed_more b v h n u x y o w = elim (cases_eq u v) [
-    | inl e ↦ n (ap (unseen_at vertices) (sym e) ∙ o) (ap (degree_at vertices) (sym e) ∙ w)
-    | inr e ↦ h u x (omega arith) o w
-  ]
+  long : length part ≡ m
+  long = ap (λ i. length (take i vertices)) e ∙ length-take-le m vertices there
+
+  same : (u : ℕ) → u < m → row part u ≡ row vertices u
+  same u l = get_or-take k vertices u bare (omega arith)
+
+  weighs : (u : ℕ) → u < m → degree_at part u ≡ degree_at vertices u
+  weighs u l = ap (λ (x : Vertex). x.degree) (same u l)
+
+  shows : (u : ℕ) → u < m → unseen_at part u ≡ unseen_at vertices u
+  shows u l = ap (λ (x : Vertex). is_unseen x.place) (same u l)
+
+  pub greatest_whole : (o : Option ℕ) → Greatest (degree_at part) (unseen_at part) (length part) o → Greatest (degree_at vertices) (unseen_at vertices) m o
+  greatest_whole None h = λ u l g. sym (weighs u l) ∙ h u (omega (arith, long)) (shows u l ∙ g)
+  greatest_whole (Some b) h =
+      let l : b < m = omega (arith, h.below, long) in
+      record {
+        passes = sym (shows b l) ∙ h.passes;
+        below = l;
+        above_zero = omega (arith, h.above_zero, weighs b l);
+        greatest_weight = λ u a o. omega (arith, h.greatest_weight u (omega (arith, long)) (shows u a ∙ o), weighs u a, weighs b l);
+        lowest = λ u a o w. h.lowest u (omega (arith, long)) (shows u a ∙ o) (weighs u a ∙ w ∙ sym (weighs b l));
+      }

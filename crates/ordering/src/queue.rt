@@ -1,12 +1,13 @@
 //! The vertices that wait for their place in the order.
-ghost use Rattle.std.specs.Prelude.{◌≡◌, ℕ, ◌+◌, ◌*◌, ◌<◌, ◌≤◌, Bool, ◌||◌, List, [], ◌∷◌, ◌++◌, length, take, drop, if◌then◌else◌, ◌==◌, slice_set};
+ghost use Rattle.std.specs.Prelude.{◌≡◌, ℕ, ◌+◌, ◌*◌, ◌<◌, ◌≤◌, Bool, ◌||◌, List, [], ◌∷◌, ◌++◌, length, take, drop, ◌==◌};
 ghost use Rattle.heap.specs.Order.{Holds};
 ghost use Rattle.orders.specs.Sooner.{sooner};
 ghost use Rattle.hashing.specs.Triples.{Triple};
 ghost use Rattle.runs.specs.Order.{degree, joined};
 ghost use Rattle.graph.specs.Chains.{row, Graph};
-ghost use Rattle.ordering.specs.Queue.{is_unseen, Queued, Replaced, Weighed, Greatest, degree_at, unseen_at, Led, Bounded, Resumed, Chosen, Low, at_place, fresh};
+ghost use Rattle.ordering.specs.Queue.{is_unseen, Queued, Replaced, Weighed, Greatest, degree_at, unseen_at, Led, Bounded, Resumed, Chosen, Low, fresh};
 
+use graph::chain::Chain;
 use graph::rows::{Edge, Place, Vertex};
 use heap::{Heap, Ordered};
 use orders::waiting::Waiting;
@@ -15,25 +16,7 @@ use orders::waiting::Waiting;
 fn unseen(place: Place) -> bool
     ensures { result ≡ is_unseen place }
 {
-    match place {
-        Place::Unseen => true,
-        Place::Waits => false,
-        Place::At(_) => false,
-    }
-}
-
-// Gives the vertex v this place.
-pub(crate) fn put(vertices: &mut [Vertex], v: usize, place: Place)
-    requires { v < length vertices.old }
-    ensures { vertices.new ≡ slice_set vertices.old v (at_place place (row vertices.old v)) }
-{
-    let old = vertices[v];
-    vertices[v] = Vertex {
-        first: old.first,
-        degree: old.degree,
-        value: old.value,
-        place,
-    };
+    matches!(place, Place::Unseen)
 }
 
 // All values are 0, and no vertex is seen.
@@ -42,26 +25,20 @@ pub(crate) fn reset(vertices: &mut [Vertex], m: usize)
     ensures done { (v : ℕ) → v < m → row vertices.new v ≡ fresh (row vertices.old v) }
     ensures rest { drop m vertices.new ≡ drop m vertices.old }
 {
-    for v in 0..m {
-        let old = vertices[v];
-        vertices[v] = Vertex {
-            first: old.first,
-            degree: old.degree,
-            value: 0,
-            place: Place::Unseen,
-        };
+    for x in &mut vertices[0..m] {
+        x.value = 0;
+        x.place = Place::Unseen;
     }
 }
 
-// Of the unseen vertices below m the one of greatest degree, above 0.
-fn greatest(vertices: &[Vertex], m: usize) -> Option<u16>
-    requires { (m ≤ length vertices.now) × (m ≤ 65536) }
-    ensures { Greatest (degree_at vertices.now) (unseen_at vertices.now) m result }
+// Of the unseen vertices the one of greatest degree, above 0.
+fn greatest(vertices: &[Vertex]) -> Option<u16>
+    requires { length vertices.now ≤ 65536 }
+    ensures { Greatest (degree_at vertices.now) (unseen_at vertices.now) (length vertices.now) result }
 {
     let mut best = None;
     let mut most = 0;
-    for v in 0..m {
-        let x = vertices[v];
+    for (v, x) in vertices.iter().enumerate() {
         if unseen(x.place) && most < x.degree {
             best = Some(v as u16);
             most = x.degree;
@@ -71,34 +48,30 @@ fn greatest(vertices: &[Vertex], m: usize) -> Option<u16>
 }
 
 // The same, if it has the degree of b, where no unseen vertex comes before b; the search begins at b.
-fn resume(vertices: &[Vertex], m: usize, b: u16) -> Option<u16>
-    requires { (m ≤ length vertices.now) × (m ≤ 65536) × Led m vertices.now b }
-    ensures { Resumed m vertices.now result }
+fn resume(vertices: &[Vertex], b: u16) -> Option<u16>
+    requires { (length vertices.now ≤ 65536) × Led (length vertices.now) vertices.now b }
+    ensures { Resumed (length vertices.now) vertices.now result }
 {
     let from = b as usize;
     let most = vertices[from].degree;
-    for v in from..m {
-        let x = vertices[v];
-        if unseen(x.place) && x.degree == most {
-            return Some(v as u16);
-        }
-    }
-    None
+    let ahead = vertices[from..]
+        .iter()
+        .position(|x| unseen(x.place) && x.degree == most)?;
+    Some((from + ahead) as u16)
 }
 
 // The same. The search goes on from `last`, the start of the component before, as long as there is one
 // of its degree; only where the degree falls are all vertices looked at again.
-fn start(vertices: &[Vertex], m: usize, last: Option<u16>) -> Option<u16>
-    requires { (m ≤ length vertices.now) × (m ≤ 65536) × Bounded m vertices.now last }
-    ensures { Greatest (degree_at vertices.now) (unseen_at vertices.now) m result }
+fn start(vertices: &[Vertex], last: Option<u16>) -> Option<u16>
+    requires { (length vertices.now ≤ 65536) × Bounded (length vertices.now) vertices.now last }
+    ensures { Greatest (degree_at vertices.now) (unseen_at vertices.now) (length vertices.now) result }
 {
     if let Some(b) = last {
-        let found = resume(vertices, m, b);
-        if found.is_some() {
-            return found;
+        if let Some(v) = resume(vertices, b) {
+            return Some(v);
         }
     }
-    greatest(vertices, m)
+    greatest(vertices)
 }
 
 // Has the vertex u wait, if it was not seen before.
@@ -110,15 +83,10 @@ fn meet(vertices: &mut [Vertex], m: usize, u: u16, heap: &mut Heap<Waiting>)
     ensures queued { (weight : ℕ → ℕ) (vs : List ℕ) (seen : ℕ → Bool) → u < m → m ≤ length heap.old.items.now → Weighed m weight vertices.old → Queued m weight vs seen vertices.old (take heap.old.len heap.old.items.now) → Queued m weight vs (λ x. (x == u) || seen x) vertices.new (take heap.new.len heap.new.items.now) }
 {
     let v = u as usize;
-    if v < m {
-        let x = vertices[v];
-        if unseen(x.place) {
-            put(vertices, v, Place::Waits);
-            let _ = heap.push(Waiting {
-                degree: x.degree,
-                vertex: u,
-            });
-        }
+    if v < m && unseen(vertices[v].place) {
+        let degree = vertices[v].degree;
+        vertices[v].place = Place::Waits;
+        let _ = heap.push(Waiting { degree, vertex: u });
     }
 }
 
@@ -136,58 +104,29 @@ pub(crate) fn choose(
     ensures low { Low (2 * r) result }
     ensures chosen { (es : List Triple) (vs : List ℕ) → Weighed (2 * r) (degree es) vertices.now → Queued (2 * r) (degree es) vs (joined es vs) vertices.now (take heap.old.len heap.old.items.now) → Chosen es r vs (take heap.old.len heap.old.items.now) (take heap.new.len heap.new.items.now) result }
 {
-    match heap.pop() {
-        Some(w) => {
-            if (w.vertex as usize) < 2 * r {
-                Some(w.vertex)
-            } else {
-                None
-            }
-        }
-        None => {
-            let found = start(vertices, 2 * r, *last);
-            *last = found;
-            found
-        }
-    }
+    let Some(w) = heap.pop() else {
+        *last = start(&vertices[0..2 * r], *last);
+        return *last;
+    };
+    ((w.vertex as usize) < 2 * r).then_some(w.vertex)
 }
 
-// The vertex of an edge on the other side.
-fn far(e: Edge, low: bool) -> u16
-    ensures { result ≡ (if low then e.h2 else e.h1) }
-{
-    if low { e.h2 } else { e.h1 }
-}
-
-// The link to the next edge in the chain of the vertex on this side.
-fn onward(e: Edge, low: bool) -> u16
-    ensures { result ≡ (if low then e.next1 else e.next2) }
-{
-    if low { e.next1 } else { e.next2 }
-}
-
-// Has the vertices wait that share one of the first n edges with v, if they were not seen before.
+// Has the vertices wait that share an edge with v, if they were not seen before.
 pub(crate) fn gather(
     edges: &[Edge],
-    n: usize,
     r: usize,
     vertices: &mut [Vertex],
     v: usize,
     heap: &mut Heap<Waiting>,
 )
-    requires { (n ≤ length edges.now) × (2 * r ≤ length vertices.old) × (r ≤ 1024) × (v < 2 * r) × Holds sooner heap.old.items.now heap.old.len }
+    requires { (2 * r ≤ length vertices.old) × (r ≤ 1024) × (v < 2 * r) × Holds sooner heap.old.items.now heap.old.len }
     ensures lent { (heap.new.items.ghost_name ≡ heap.old.items.ghost_name) × (length heap.new.items.now ≡ length heap.old.items.now) }
     ensures holds { Holds sooner heap.new.items.now heap.new.len }
     ensures replaced { Replaced (2 * r) vertices.old vertices.new }
-    ensures queued { (es : List Triple) (vs : List ℕ) → length es ≡ n → Graph es r edges.now vertices.old → 2 * r ≤ length heap.old.items.now → Queued (2 * r) (degree es) (vs ++ v ∷ []) (joined es vs) vertices.old (take heap.old.len heap.old.items.now) → Queued (2 * r) (degree es) (vs ++ v ∷ []) (joined es (vs ++ v ∷ [])) vertices.new (take heap.new.len heap.new.items.now) }
+    ensures queued { (es : List Triple) (vs : List ℕ) → length es ≡ length edges.now → Graph es r edges.now vertices.old → 2 * r ≤ length heap.old.items.now → Queued (2 * r) (degree es) (vs ++ v ∷ []) (joined es vs) vertices.old (take heap.old.len heap.old.items.now) → Queued (2 * r) (degree es) (vs ++ v ∷ []) (joined es (vs ++ v ∷ [])) vertices.new (take heap.new.len heap.new.items.now) }
 {
     let low = v < r;
-    let mut bound = n;
-    let mut at = vertices[v].first as usize;
-    while 0 < at && at <= bound {
-        bound = at - 1;
-        let e = edges[bound];
-        meet(vertices, 2 * r, far(e, low), heap);
-        at = onward(e, low) as usize;
+    for (_, e) in Chain::new(edges, vertices[v].first, low) {
+        meet(vertices, 2 * r, e.far(low), heap);
     }
 }

@@ -1,5 +1,8 @@
-use Rattle.std.proofs.Common.{◌+◌, ◌*◌, ◌<◌, ◌≤◌, [], length, take, drop, sym, refl, ap, ◌∙◌, subst, arith}
+use Rattle.std.proofs.Common.{◌≡◌, ◌+◌, ◌*◌, ◌<◌, ◌≤◌, [], length, take, drop, set, sym, refl, ap, ◌∙◌, subst, arith}
 use Rattle.std.proofs.lemmas.List.{drop-set-lt, drop-drop}
+use Rattle.graph.specs.declared.rows.Place.TheVariants.{At}
+use Rattle.graph.specs.Chains.{row}
+use Rattle.ordering.specs.Queue.{OrderedGraph, at_place}
 use Rattle.ordering.proofs.Queues.{replaced_none, replaced_both}
 use Rattle.ordering.proofs.Starts.{bounded_on}
 use Rattle.ordering.proofs.Gathering.{graph_kept, graph_weighs}
@@ -9,8 +12,7 @@ use Rattle.ordering.proofs.order.arrange.Goals as goal
 pub loop-k-init : goal.loop-k-init
 loop-k-init c =
     let e = c.new-heap.ensures.lent in (
-      omega arith,
-      ap length e.1 ∙ c.requires.3,
+      ap length e.1 ∙ c.requires.2,
       c.new-heap.ensures.holds,
       replaced_none _ _,
       refl,
@@ -20,7 +22,7 @@ loop-k-init c =
     )
 
 pub choose-requires : goal.choose-requires
-choose-requires c = let l = c.loop-k in (omega arith, c.requires.2, l.invariant.2, l.invariant.5)
+choose-requires c = let l = c.loop-k in (omega arith, c.requires.1, l.invariant.1, l.invariant.4)
 
 pub loop-k-preserved : goal.loop-k-preserved
 loop-k-preserved c =
@@ -32,40 +34,41 @@ loop-k-preserved c =
     let edges = c.args.edges.now in
     let lk : l.k < length l.ordered = omega arith in
     let lv : 2 * r ≤ length l.vertices = omega arith in
-    let put = put_replaced (2 * r) l.k v l.vertices c.put.new.vertices ch.low lv c.put.ensures in (
-      omega arith,
-      a.lent.1 ∙ ch.lent.1 ∙ l.invariant.1,
+    let after = set l.vertices v (at_place (At l.k) (row l.vertices v)) in
+    let put = put_replaced (2 * r) l.k v l.vertices after ch.low lv refl in (
+      a.lent.1 ∙ ch.lent.1 ∙ l.invariant.0,
       a.holds,
-      replaced_both _ _ _ _ l.invariant.3 (replaced_both _ _ _ _ put a.replaced),
-      drop-set-lt (l.k + 1) l.ordered l.k v (omega arith) ∙ sym (drop-drop 1 l.k l.ordered) ∙ ap (drop 1) l.invariant.4 ∙ drop-drop 1 l.k c.args.ordered.now,
+      replaced_both _ _ _ _ l.invariant.2 (replaced_both _ _ _ _ put a.replaced),
+      drop-set-lt (l.k + 1) l.ordered l.k v (omega arith) ∙ sym (drop-drop 1 l.k l.ordered) ∙ ap (drop 1) l.invariant.3 ∙ drop-drop 1 l.k c.args.ordered.now,
       bounded_on (2 * r) l.vertices c.gather.new.vertices (replaced_both _ _ _ _ put a.replaced) c.choose.new.last ch.bounded,
       λ es en g.
-          let w = l.invariant.6 es en g in
-          let h = graph_kept es r edges c.reset.new.vertices l.vertices l.invariant.3.first l.invariant.3.degree g in
-          let h1 = graph_kept es r edges l.vertices c.put.new.vertices put.first put.degree h in
+          let w = l.invariant.5 es en g in
+          let h = graph_kept es r edges c.reset.new.vertices l.vertices l.invariant.2.first l.invariant.2.degree g in
+          let h1 = graph_kept es r edges l.vertices after put.first put.degree h in
           let next = ch.chosen es (take l.k l.ordered) (graph_weighs es r edges l.vertices h) w.queued in
-          arranged_more es r edges l.ordered l.k v l.vertices c.put.new.vertices _ _ lk lv ch.low w next c.put.ensures _ _
+          arranged_more es r edges l.ordered l.k v l.vertices after _ _ lk lv ch.low w next refl _ _
           (a.queued es (take l.k l.ordered) en h1 (omega (arith, ch.lent.1))
-          (put_queued es r edges l.ordered l.k v l.vertices c.put.new.vertices _ _ lk lv ch.low w next c.put.ensures)),
+          (put_queued es r edges l.ordered l.k v l.vertices after _ _ lk lv ch.low w next refl)),
     )
 
-pub returns-after-loop-k : goal.returns-after-loop-k
-returns-after-loop-k c =
+pub returns : goal.returns
+returns c =
     let l = c.loop-k in
     let r = c.args.r in
     let edges = c.args.edges.now in
-    let b = begun_on _ _ _ _ (begun_reset (2 * r) c.args.vertices.now c.reset.new.vertices c.reset.ensures.done c.reset.ensures.rest) l.invariant.3 in
     let b0 = begun_reset (2 * r) c.args.vertices.now c.reset.new.vertices c.reset.ensures.done c.reset.ensures.rest in
+    let b = begun_on _ _ _ _ b0 l.invariant.2 in
     let lk : l.k ≤ length l.ordered = omega arith in
+    let full : l.k ≡ 2 * r = omega arith in
     record {
-      low = l.invariant.0;
+      low = omega arith;
       begun = b;
-      rest = l.invariant.4;
+      rest = subst (λ k. drop k l.ordered ≡ drop k c.args.ordered.now) full l.invariant.3;
       exact = λ es en g.
           let g0 = graph_kept es r edges c.args.vertices.now c.reset.new.vertices b0.first b0.degree g in
           let h = graph_kept es r edges c.args.vertices.now l.vertices b.first b.degree g in
-          let w = l.invariant.6 es en g0 in
-          in_order es r edges l.ordered l.k l.vertices _ h lk w (all_taken es r edges l.ordered l.k l.vertices _ h lk w c.loop-k-test.false l.invariant.0);
+          let w = l.invariant.5 es en g0 in
+          subst (OrderedGraph es r edges l.vertices l.ordered) full (in_order es r edges l.ordered l.k l.vertices _ h lk w (all_taken es r edges l.ordered l.k l.vertices _ h lk w (omega arith) (omega arith)));
     }
 
 pub returns-in_default : goal.returns-in_default
@@ -73,16 +76,16 @@ returns-in_default c =
     let l = c.loop-k in
     let r = c.args.r in
     let edges = c.args.edges.now in
-    let b = begun_on _ _ _ _ (begun_reset (2 * r) c.args.vertices.now c.reset.new.vertices c.reset.ensures.done c.reset.ensures.rest) l.invariant.3 in
     let b0 = begun_reset (2 * r) c.args.vertices.now c.reset.new.vertices c.reset.ensures.done c.reset.ensures.rest in
+    let b = begun_on _ _ _ _ b0 l.invariant.2 in
     let lk : l.k ≤ length l.ordered = omega arith in
     record {
-      low = l.invariant.0;
+      low = omega arith;
       begun = b;
-      rest = l.invariant.4;
+      rest = l.invariant.3;
       exact = λ es en g.
           let g0 = graph_kept es r edges c.args.vertices.now c.reset.new.vertices b0.first b0.degree g in
           let h = graph_kept es r edges c.args.vertices.now l.vertices b.first b.degree g in
-          let w = l.invariant.6 es en g0 in
+          let w = l.invariant.5 es en g0 in
           in_order es r edges l.ordered l.k l.vertices _ h lk w (c.in_default.ensures.chosen es (take l.k l.ordered) (graph_weighs es r edges l.vertices h) w.queued);
     }

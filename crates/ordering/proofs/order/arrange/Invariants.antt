@@ -1,4 +1,4 @@
-use Rattle.std.proofs.Common.{◌≡◌, ◌-◌, ◌*◌, ◌≤◌, List, length, take, drop}
+use Rattle.std.proofs.Common.{◌≡◌, ◌*◌, List, length, take, drop}
 use Rattle.heap.specs.Order.{Holds}
 use Rattle.orders.specs.Sooner.{sooner}
 use Rattle.hashing.specs.Triples.{Triple}
@@ -9,13 +9,9 @@ use Rattle.ordering.proofs.order.arrange.Given as goal
 
 abbrev pub invariant-loop-k : goal.invariant-loop-k
 invariant-loop-k l =
-    (l.k ≤ 2 * l.r)
-    × (length l.heap.items.now ≡ 2 * l.r)
+    (length l.heap.items.now ≡ 2 * l.r)
     × Holds sooner l.heap.items.now l.heap.len
     × Replaced (2 * l.r) l.initial.vertices l.vertices
     × (drop l.k l.ordered ≡ drop l.k l.initial.ordered)
     × Bounded (2 * l.r) l.vertices l.last
-    × ((es : List Triple) → length es ≡ l.n → Graph es l.r l.edges l.initial.vertices → Arranged es l.r (take l.k l.ordered) l.vertices (take l.heap.len l.heap.items.now))
-
-abbrev pub decreases-loop-k : goal.decreases-loop-k
-decreases-loop-k l = 2 * l.r - l.k
+    × ((es : List Triple) → length es ≡ length l.edges → Graph es l.r l.edges l.initial.vertices → Arranged es l.r (take l.k l.ordered) l.vertices (take l.heap.len l.heap.items.now))

@@ -1,40 +1,32 @@
-use Rattle.std.proofs.Common.{length, take, ap, ◌∙◌, arith}
-use Rattle.ordering.proofs.Choosing.{popped, popped_low, started, greatest_low}
-use Rattle.ordering.proofs.Starts.{greatest_bounds}
+use Rattle.std.proofs.Common.{◌≡◌, ◌-◌, ◌*◌, ◌<◌, take, sym, ap, ◌∙◌, subst, arith}
+use Rattle.std.specs.Bool.{then_some}
+use Rattle.std.proofs.lemmas.Bool.{lt-ltb}
+use Rattle.ordering.specs.Queue.{Chosen}
+use Rattle.ordering.proofs.Choosing.{popped, popped_low, started}
+use Rattle.ordering.proofs.Starts.{greatest_whole}
 use Rattle.ordering.proofs.queue.choose.Goals as goal
 
-pub returns-then-w-r : goal.returns-then-w-r
-returns-then-w-r c =
+pub returns-clause-chosen : goal.returns-clause-chosen
+returns-clause-chosen c =
+    let r = c.args.r in
+    let vertices = c.args.vertices.now in
+    let before = take c.args.heap.now.len c.args.heap.now.items.now in
+    let after = take c.pop.new.self.len c.pop.new.self.items.now in
     let h = c.in-Some.ensures in
-    let p = h.popped in
-    record {
-      lent = (h.lent, p.long);
-      holds = h.holds c.requires.2;
-      bounded = c.requires.3;
-      low = c.if-w-r.true;
-      chosen = λ es vs wd q. popped es c.args.r vs c.args.vertices.now (take c.args.heap.now.len c.args.heap.now.items.now) wd q c.in-Some.w (take c.pop.new.self.len c.pop.new.self.items.now) (h.first c.requires.2) p.content;
-    }
+    let y = c.in-Some.w in
+    λ es vs wd q.
+    let low : y.vertex < 2 * r = popped_low es r vs vertices before wd q y after (h.first c.requires.2) h.popped.content in
+    let is = c.then_some.ensures ∙ ap (λ b. then_some b y.vertex) (lt-ltb y.vertex (2 * r) low) in
+    subst (Chosen es r vs before after) (sym is) (popped es r vs vertices before wd q y after (h.first c.requires.2) h.popped.content)
 
-pub returns-else-w-r : goal.returns-else-w-r
-returns-else-w-r c =
-    let h = c.in-Some.ensures in
-    let p = h.popped in
-    record {
-      lent = (h.lent, p.long);
-      holds = h.holds c.requires.2;
-      bounded = c.requires.3;
-      low = tt;
-      chosen = λ es vs wd q. absurd (omega (arith, popped_low es c.args.r vs c.args.vertices.now (take c.args.heap.now.len c.args.heap.now.items.now) wd q c.in-Some.w (take c.pop.new.self.len c.pop.new.self.items.now) (h.first c.requires.2) p.content));
-    }
-
-pub returns-in-None : goal.returns-in-None
-returns-in-None c =
-    let h = c.in-None.ensures in
-    let p = h.popped in
-    record {
-      lent = (h.lent, ap length p.same);
-      holds = h.holds c.requires.2;
-      bounded = greatest_bounds _ _ c.start-found.result c.start-found.ensures;
-      low = greatest_low _ _ _ c.start-found.result c.start-found.ensures;
-      chosen = λ es vs wd q. started es c.args.r vs c.args.vertices.now (take c.args.heap.now.len c.args.heap.now.items.now) wd q (take c.pop.new.self.len c.pop.new.self.items.now) (ap (λ n. take n c.args.heap.now.items.now) (p.none c.requires.2.0)) (ap (λ n. take n c.pop.new.self.items.now) (p.count ∙ p.none c.requires.2.0)) c.start-found.result c.start-found.ensures;
-    }
+pub returns-in_default-clause-chosen : goal.returns-in_default-clause-chosen
+returns-in_default-clause-chosen c =
+    let r = c.args.r in
+    let items = c.args.heap.now.items.now in
+    let after = c.pop.new.self.items.now in
+    let p = c.in_default.ensures.popped in
+    let z : 2 * r - 0 ≡ 2 * r = omega arith in
+    λ es vs wd q.
+    started es r vs c.args.vertices.now (take c.args.heap.now.len items) wd q (take c.pop.new.self.len after)
+    (ap (λ n. take n items) (p.none c.requires.2.0)) (ap (λ n. take n after) (p.count ∙ p.none c.requires.2.0)) c.start.result
+    (greatest_whole (2 * r) (2 * r - 0) c.args.vertices.now z c.requires.0 c.start.result c.start.ensures)

@@ -1,23 +1,19 @@
-use Rattle.std.proofs.Common.{◌≡◌, ℕ, ◌*◌, ◌≤◌, List, [], ◌∷◌, ◌++◌, length, take}
+use Rattle.std.proofs.Common.{◌≡◌, ℕ, ◌*◌, ◌≤◌, ltb, List, [], ◌∷◌, ◌++◌, length, take}
 use Rattle.heap.specs.Order.{Holds}
 use Rattle.orders.specs.Sooner.{sooner}
 use Rattle.hashing.specs.Triples.{Triple}
 use Rattle.runs.specs.Order.{degree, joined}
 use Rattle.graph.specs.Chains.{Graph}
 use Rattle.ordering.specs.Queue.{Queued, Replaced}
-use Rattle.ordering.proofs.Gathering.{Gathered}
+use Rattle.ordering.proofs.Gathering.{seen_by}
 use Rattle.ordering.proofs.queue.gather.Given as goal
 
-abbrev pub invariant-loop-at : goal.invariant-loop-at
-invariant-loop-at l =
-    (l.bound ≤ l.n)
-    × (l.heap.items.ghost_name ≡ l.initial.heap.items.ghost_name)
+abbrev pub invariant-loop-e : goal.invariant-loop-e
+invariant-loop-e l =
+    (l.heap.items.ghost_name ≡ l.initial.heap.items.ghost_name)
     × (length l.heap.items.now ≡ length l.initial.heap.items.now)
     × Holds sooner l.heap.items.now l.heap.len
     × Replaced (2 * l.r) l.initial.vertices l.vertices
-    × ((es : List Triple) (vs : List ℕ) → length es ≡ l.n → Graph es l.r l.edges l.initial.vertices → 2 * l.r ≤ length l.initial.heap.items.now →
+    × ((es : List Triple) (vs : List ℕ) → length es ≡ length l.edges → Graph es l.r l.edges l.initial.vertices → 2 * l.r ≤ length l.initial.heap.items.now →
     Queued (2 * l.r) (degree es) (vs ++ l.v ∷ []) (joined es vs) l.initial.vertices (take l.initial.heap.len l.initial.heap.items.now) →
-    Gathered es l.r vs l.v l.bound l.at l.vertices (take l.heap.len l.heap.items.now))
-
-abbrev pub decreases-loop-at : goal.decreases-loop-at
-decreases-loop-at l = l.bound
+    Queued (2 * l.r) (degree es) (vs ++ l.v ∷ []) (seen_by es vs (ltb l.v l.r) l.yielded) l.vertices (take l.heap.len l.heap.items.now))

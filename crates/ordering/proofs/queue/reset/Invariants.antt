@@ -1,7 +1,7 @@
-use Rattle.std.proofs.Common.{◌≡◌, ℕ, ◌<◌, ◌≤◌, drop}
+use Rattle.std.proofs.Common.{◌≡◌, ℕ, ◌<◌, ◌≤◌}
 use Rattle.graph.specs.Chains.{row}
 use Rattle.ordering.specs.Queue.{fresh}
 use Rattle.ordering.proofs.queue.reset.Given as goal
 
-abbrev pub invariant-loop-v : goal.invariant-loop-v
-invariant-loop-v l = ((v : ℕ) → v < l.v → row l.vertices v ≡ fresh (row l.initial.vertices v)) × ((v : ℕ) → l.v ≤ v → row l.vertices v ≡ row l.initial.vertices v) × (drop l.m l.vertices ≡ drop l.m l.initial.vertices)
+abbrev pub invariant-loop-x : goal.invariant-loop-x
+invariant-loop-x l = ((v : ℕ) → v < l.x-index → row l.x-items v ≡ fresh (row l.initial.x-items v)) × ((v : ℕ) → l.x-index ≤ v → row l.x-items v ≡ row l.initial.x-items v)

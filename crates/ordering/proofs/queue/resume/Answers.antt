@@ -1,16 +1,16 @@
-use Rattle.std.proofs.Common.{sym}
-use Rattle.std.proofs.lemmas.Bool.{both_ways}
-use Rattle.ordering.proofs.Starts.{led_best, passed_more}
+use Rattle.std.proofs.Common.{◌≡◌, ◌-◌, true, false, Some, length, drop, refl, ◌∙◌, rules, tests, arith}
+use Rattle.std.proofs.lemmas.List.{take_all, length-drop}
+use Rattle.std.proofs.lemmas.Iterator.{IsFirst-from_position, YieldsList-from_slice}
+use Rattle.graph.specs.declared.rows.Vertex.{Vertex}
+use Rattle.ordering.specs.Queue.{degree_at}
+use Rattle.ordering.proofs.Starts.{hit, resumed_best}
 use Rattle.ordering.proofs.queue.resume.Goals as goal
-use Rattle.ordering.proofs.queue.resume.Goals.{else-unseen-via-then-unseen+else-x-most, else-unseen-via-else-unseen}
 
-pub loop-v-preserved : goal.loop-v-preserved
-loop-v-preserved c =
-    passed_more c.args.m c.args.vertices.now c.args.b c.loop-v.v c.loop-v.invariant
-    (elim c.else-unseen.branch [
-      | else-unseen-via-then-unseen+else-x-most w ↦ λ o e. w.if-x-most.false e
-      | else-unseen-via-else-unseen w ↦ λ o e. both_ways _ (sym w.if-unseen.ensures) o
-    ])
-
-pub returns-then-x-most : goal.returns-then-x-most
-returns-then-x-most c = led_best c.args.m c.args.vertices.now c.args.b c.loop-v.v c.requires.2 c.loop-v-test.true (sym c.if-unseen.ensures) c.if-x-most.true c.loop-v.invariant
+pub returns : goal.returns
+returns c =
+    let vertices = c.args.vertices.now in
+    let b = c.args.b in
+    let most = degree_at vertices b in
+    resumed_best (length vertices) vertices b c.in_ok-ahead.ahead refl c.requires.1
+    (IsFirst-from_position c.position.new.self _ (Some c.in_ok-ahead.ahead) (λ (x : Vertex). hit most x ≡ true) (λ (x : Vertex). hit most x ≡ false) c.in_ok-ahead.ensures.ran
+    (YieldsList-from_slice (drop b vertices) (c.iter.ensures.rest ∙ take_all (length vertices - b) (drop b vertices) (omega (arith, length-drop b vertices)))) (λ x q k. search (rules, tests)) (λ x q k. search (rules, tests)))
