@@ -3,7 +3,8 @@
 #![tactic(auto)]
 
 ghost use Rattle.std.specs.Prelude.{◌≡◌, IfOk, replicate};
-ghost use Rattle.lending.specs.Full.{IsFull};
+ghost use Rattle.pressing.specs.Memory.{held};
+ghost use Rattle.lending.specs.Full.{IsFull, whole};
 
 use graph::rows::{Edge, Place, Row, Vertex};
 use hashing::tables::TABLE_NUMBERS;
@@ -61,45 +62,11 @@ pub struct WorkLists<N> {
     pub slots: Vec<Option<u16>>,
 }
 
-// Lists that are lent whole.
-fn lists<'a, N: Kind>(
-    rows: &'a mut [Row<N>],
-    tables: &'a mut [u32],
-    edges: &'a mut [Edge],
-    vertices: &'a mut [Vertex],
-    heap: &'a mut [Waiting],
-    ordered: &'a mut [u16],
-    slots: &'a mut [Option<u16>],
-) -> Lists<'a, 'a, 'a, 'a, 'a, 'a, 'a, N>
-    ensures rows { result.rows.now ≡ rows.old }
-    ensures tables { result.tables.now ≡ tables.old }
-    ensures edges { result.edges.now ≡ edges.old }
-    ensures vertices { result.vertices.now ≡ vertices.old }
-    ensures heap { result.heap.now ≡ heap.old }
-    ensures ordered { result.ordered.now ≡ ordered.old }
-    ensures slots { result.slots.now ≡ slots.old }
-{
-    Lists {
-        rows,
-        tables,
-        edges,
-        vertices,
-        heap,
-        ordered,
-        slots,
-    }
-}
-
 /// Memory with the same item at each of `len` places.
-#[tactic(auto, using(std::proofs::lemmas::List::replicate_more))]
 pub fn filled<T: Copy>(heap: Global, item: T, len: usize) -> Result<Vec<T>, AllocError>
     ensures { IfOk result (λ v. v.items ≡ replicate len item) }
 {
-    let mut memory = Vec::new(heap);
-    for _ in 0..len {
-        memory.push(item)?;
-    }
-    Ok(memory)
+    (0..len).map(|_| item).collect(heap)
 }
 
 impl<N: Kind> WorkLists<N> {
@@ -123,23 +90,17 @@ impl<N: Kind> WorkLists<N> {
     }
 
     /// Lends the lists whole.
-    pub fn lend(&mut self) -> Lists<'_, '_, '_, '_, '_, '_, '_, N>
-        ensures rows { result.rows.now ≡ self.old.rows.items }
-        ensures tables { result.tables.now ≡ self.old.tables.items }
-        ensures edges { result.edges.now ≡ self.old.edges.items }
-        ensures vertices { result.vertices.now ≡ self.old.vertices.items }
-        ensures heap { result.heap.now ≡ self.old.heap.items }
-        ensures ordered { result.ordered.now ≡ self.old.ordered.items }
-        ensures slots { result.slots.now ≡ self.old.slots.items }
+    pub fn lend(&mut self) -> Lists<'_, N>
+        ensures { held result ≡ whole self.old }
     {
-        lists(
-            &mut self.rows,
-            &mut self.tables,
-            &mut self.edges,
-            &mut self.vertices,
-            &mut self.heap,
-            &mut self.ordered,
-            &mut self.slots,
-        )
+        Lists {
+            rows: &mut self.rows,
+            tables: &mut self.tables,
+            edges: &mut self.edges,
+            vertices: &mut self.vertices,
+            heap: &mut self.heap,
+            ordered: &mut self.ordered,
+            slots: &mut self.slots,
+        }
     }
 }

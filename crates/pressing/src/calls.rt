@@ -67,12 +67,7 @@ impl<N: Kind> Pressing<N> {
     }
 
     /// Adds a name with its setting, in the row after those in use.
-    pub fn enter(
-        &mut self,
-        lists: Lists<'_, N>,
-        name: N,
-        setting: u16,
-    ) -> Result<(), PressFault>
+    pub fn enter(&mut self, lists: Lists<'_, N>, name: N, setting: u16) -> Result<(), PressFault>
         ensures { EnterDone N.spelling name setting self.old (held lists.entry) result self.new (left_in lists.exit) }
     {
         let next = self.begin(Event::Enter, &lists)?;
@@ -91,12 +86,7 @@ impl<N: Kind> Pressing<N> {
     }
 
     /// Fills the tables from the seed, and writes the graph of the names into edges and vertices.
-    pub fn map(
-        &mut self,
-        lists: Lists<'_, N>,
-        r: u16,
-        seed: u32,
-    ) -> Result<(), PressFault>
+    pub fn map(&mut self, lists: Lists<'_, N>, r: u16, seed: u32) -> Result<(), PressFault>
         ensures { MapDone N.spelling r seed self.old (held lists.entry) result self.new (left_in lists.exit) }
     {
         let next = self.begin(Event::Map, &lists)?;
@@ -140,11 +130,7 @@ impl<N: Kind> Pressing<N> {
 
     /// Fits the next level by a way: its vertex gets the first rotation that fits as its value, and the
     /// slots of its names are filled.
-    pub fn fit<W: Way>(
-        &mut self,
-        lists: Lists<'_, N>,
-        way: &W,
-    ) -> Result<Fit, PressFault>
+    pub fn fit<W: Way>(&mut self, lists: Lists<'_, N>, way: &W) -> Result<Fit, PressFault>
         ensures { FitDone N.spelling (W.meaning way.now) self.old (held lists.entry) result self.new (left_in lists.exit) }
     {
         let level = self.level;
@@ -182,11 +168,7 @@ impl<N: Kind> Pressing<N> {
     }
 
     /// Writes the plate string at the start of the memory, and answers its length.
-    pub fn seal(
-        &mut self,
-        lists: Lists<'_, N>,
-        string: &mut [u8],
-    ) -> Result<usize, PressFault>
+    pub fn seal(&mut self, lists: Lists<'_, N>, string: &mut [u8]) -> Result<usize, PressFault>
         ensures { SealDone N.spelling N.number self.old (held lists.entry) string.old result self.new (left_in lists.exit) string.new }
     {
         let next = self.begin(Event::Seal, &lists)?;

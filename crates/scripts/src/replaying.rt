@@ -1,5 +1,5 @@
-ghost use Rattle.std.specs.Prelude.{◌≡◌, ℕ, ◌<◌, min, map, length, MatchOption};
-ghost use Rattle.pressing.specs.Memory.{memory};
+ghost use Rattle.std.specs.Prelude.{◌≡◌, MatchOption};
+ghost use Rattle.pressing.specs.Memory.{memory, held, left_in};
 ghost use Rattle.scripts.specs.Script.{Performed, StepTaken, NotReplayed, Replayed};
 
 use crate::script::{Call, Step};
@@ -51,12 +51,6 @@ fn perform<N: Kind, W: Way>(
     }
 }
 
-fn least(a: usize, b: usize) -> usize
-    ensures { result ≡ min a b }
-{
-    if a < b { a } else { b }
-}
-
 // One step of a script: its call, lent first parts of the lists and of the string memory.
 fn take_step<N: Kind, W: Way>(
     pressing: &mut Pressing<N>,
@@ -73,14 +67,14 @@ fn take_step<N: Kind, W: Way>(
     ensures { StepTaken N.spelling N.number W.meaning step.now pressing.old (memory rows.old tables.old edges.old vertices.old heap.old ordered.old slots.old) string.old result pressing.new (memory rows.new tables.new edges.new vertices.new heap.new ordered.new slots.new) string.new }
 {
     let lengths = step.lengths;
-    let row_count = least(lengths.rows, rows.len());
-    let table_count = least(lengths.tables, tables.len());
-    let edge_count = least(lengths.edges, edges.len());
-    let vertex_count = least(lengths.vertices, vertices.len());
-    let heap_count = least(lengths.heap, heap.len());
-    let ordered_count = least(lengths.ordered, ordered.len());
-    let slot_count = least(lengths.slots, slots.len());
-    let room = least(step.room, string.len());
+    let row_count = lengths.rows.min(rows.len());
+    let table_count = lengths.tables.min(tables.len());
+    let edge_count = lengths.edges.min(edges.len());
+    let vertex_count = lengths.vertices.min(vertices.len());
+    let heap_count = lengths.heap.min(heap.len());
+    let ordered_count = lengths.ordered.min(ordered.len());
+    let slot_count = lengths.slots.min(slots.len());
+    let room = step.room.min(string.len());
     perform(
         pressing,
         &step.call,
@@ -101,11 +95,11 @@ fn take_step<N: Kind, W: Way>(
 pub fn replay<N: Kind, W: Way>(
     script: &[Step<N, W>],
     pressing: &mut Pressing<N>,
-    lists: Lists<'_, '_, '_, '_, '_, '_, '_, N>,
+    lists: Lists<'_, N>,
     string: &mut [u8],
     answers: &mut [Answer],
 ) -> Option<()>
-    ensures { MatchOption result (NotReplayed script.now pressing.old (memory lists.entry.rows.now lists.entry.tables.now lists.entry.edges.now lists.entry.vertices.now lists.entry.heap.now lists.entry.ordered.now lists.entry.slots.now) string.old answers.old pressing.new (memory lists.exit.0.now lists.exit.1.0.now lists.exit.1.1.0.now lists.exit.1.1.1.0.now lists.exit.1.1.1.1.0.now lists.exit.1.1.1.1.1.0.now lists.exit.1.1.1.1.1.1.0.now) string.new answers.new) (λ _. Replayed N.spelling N.number W.meaning script.now pressing.old (memory lists.entry.rows.now lists.entry.tables.now lists.entry.edges.now lists.entry.vertices.now lists.entry.heap.now lists.entry.ordered.now lists.entry.slots.now) string.old answers.old pressing.new (memory lists.exit.0.now lists.exit.1.0.now lists.exit.1.1.0.now lists.exit.1.1.1.0.now lists.exit.1.1.1.1.0.now lists.exit.1.1.1.1.1.0.now lists.exit.1.1.1.1.1.1.0.now) string.new answers.new) }
+    ensures { MatchOption result (NotReplayed script.now pressing.old (held lists.entry) string.old answers.old pressing.new (left_in lists.exit) string.new answers.new) (λ _. Replayed N.spelling N.number W.meaning script.now pressing.old (held lists.entry) string.old answers.old pressing.new (left_in lists.exit) string.new answers.new) }
 {
     let Lists {
         rows,
