@@ -2,19 +2,13 @@ ghost use Rattle.std.specs.Prelude.{◌≡◌, IfOk, replicate};
 ghost use Rattle.lending.specs.Full.{IsFull};
 
 use crate::stopped::{Call, Stopped, answered};
+use graph::rows::Row;
 use lending::{LONGEST_STRING, WorkLists, filled};
 use names::kind::Kind;
 use pressing::lists::MOST_VERTICES;
 use pressing::press::Pressing;
 use std::alloc::{AllocError, Global};
 use ways::way::Way;
-
-/// A name with its setting.
-#[derive(Clone, Copy, Drop)]
-pub struct Listed<N> {
-    pub name: N,
-    pub setting: u16,
-}
 
 /// A pressing with its memory.
 #[derive(Drop)]
@@ -50,23 +44,21 @@ impl<N: Kind> Bench<N> {
         })
     }
 
-    fn enter(&mut self, names: &[Listed<N>]) -> Result<(), Stopped> {
-        for (i, listed) in names.iter().enumerate() {
+    // Enters the names, which count from 1.
+    fn enter(&mut self, names: &[Row<N>]) -> Result<(), Stopped> {
+        for (number, row) in (1usize..).zip(names) {
             let lists = self.lists.lend();
-            let answer = self.pressing.enter(lists, listed.name, listed.setting);
-            answered(Call::Enter(i.saturating_add(1)), answer)?;
+            let answer = self.pressing.enter(lists, row.name, row.setting);
+            answered(Call::Enter(number), answer)?;
         }
         Ok(())
     }
 
     // Fits the levels.
     fn fit<W: Way>(&mut self, way: &W, levels: usize) -> Result<(), Stopped> {
-        for level in 0..levels {
+        for (level, tries) in self.tries.iter_mut().take(levels).enumerate() {
             let lists = self.lists.lend();
-            let fit = answered(Call::Fit(level), self.pressing.fit(lists, way))?;
-            if let Some(tries) = self.tries.get_mut(level) {
-                *tries = fit.tries;
-            }
+            *tries = answered(Call::Fit(level), self.pressing.fit(lists, way))?.tries;
         }
         Ok(())
     }
@@ -83,7 +75,7 @@ impl<N: Kind> Bench<N> {
     /// Presses the names: enters, maps, orders, fits level by level, and seals.
     pub fn press<W: Way>(
         &mut self,
-        names: &[Listed<N>],
+        names: &[Row<N>],
         r: u16,
         seed: u32,
         way: &W,

@@ -5,4 +5,3 @@
 pub mod bench;
 pub mod plate;
 pub mod stopped;
-pub mod words;

@@ -1,6 +1,5 @@
 ghost use Rattle.std.specs.Prelude.{◌≡◌, Ok, Err, MatchResult};
 
-use crate::words::Refusal;
 use runs::fault::PressFault;
 use std::fmt;
 
@@ -37,9 +36,8 @@ pub struct Stopped {
 
 impl fmt::Display for Stopped {
     fn fmt<W: fmt::Write>(&self, f: &mut fmt::Formatter<W>) -> fmt::Result {
-        let call = self.call;
-        let refusal = Refusal(self.fault);
-        write!(f, "{call}: {refusal}")
+        let (call, fault) = (self.call, self.fault);
+        write!(f, "{call}: {fault}")
     }
 }
 
@@ -47,8 +45,5 @@ impl fmt::Display for Stopped {
 pub fn answered<T>(call: Call, answer: Result<T, PressFault>) -> Result<T, Stopped>
     ensures { MatchResult answer (λ x. result ≡ Ok x) (λ f. result ≡ Err (record { call = call; fault = f })) }
 {
-    match answer {
-        Ok(x) => Ok(x),
-        Err(fault) => Err(Stopped { call, fault }),
-    }
+    answer.map_err(|fault| Stopped { call, fault })
 }

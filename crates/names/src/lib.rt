@@ -6,3 +6,4 @@ pub mod cell;
 pub mod fault;
 pub mod kind;
 pub mod point;
+mod shown;

@@ -1,27 +1,36 @@
 -- The lines of a session that are answered, and with what.
-use Rattle.std.specs.Prelude.{ℕ, cond, List, [], ◌∷◌, length, take, Option, Some, None, Ok, Err, nat_le}
+use Rattle.std.specs.Prelude.{ℕ, cond, List, [], ◌∷◌, length, take, Option, Some, None, Result, Ok, Err, nat_le}
 use Rattle.runs.specs.Answers.{Answer}
 use Rattle.runs.specs.declared.answer.Outcome.TheVariants as answer
+use Rattle.typing.specs.declared.typed.Unlisted.{Unlisted}
+use Rattle.typing.specs.declared.typed.Unlisted.TheVariants as unlisted
 use Rattle.replaying.specs.declared.reply.Reply.{Reply}
 use Rattle.replaying.specs.declared.reply.Reply.TheVariants as reply
 use Rattle.replaying.specs.declared.said.Said.{Said}
 use Rattle.replaying.specs.declared.said.Said.TheVariants as said
-use Rattle.replaying.specs.declared.session.Line.{Line}
-use Rattle.replaying.specs.declared.session.Line.TheVariants as line
+use Rattle.replaying.specs.declared.uncalled.Uncalled.{Uncalled}
+use Rattle.replaying.specs.declared.uncalled.Uncalled.TheVariants as uncalled
 
--- a line is answered by its call, with a refusal, or as unread
+-- a line that is answered: by the next call, or with why it makes none
+abbrev pub Line : Type 0
+Line = Result (Unit {0}) Uncalled
+
+-- words that give no name are refused, or unread
+abbrev pub of_unlisted : Unlisted → Uncalled
+of_unlisted (unlisted.Refused f) = uncalled.Name f
+of_unlisted unlisted.Unread = uncalled.Unread
+
+-- a line is answered by its call, or with why it makes none
 abbrev pub reply_to : Line → Answer → Reply
-reply_to line.Call a = reply.Called a
-reply_to (line.Refused n) a = reply.Refused n
-reply_to line.Unread a = reply.Unread
+reply_to (Ok _) a = reply.Called a
+reply_to (Err u) a = reply.Uncalled u
 
 -- the line that is answered, or none
-abbrev pub lines_of : {N : Type 0} → Said N → List Line
-lines_of said.Blank = []
-lines_of (said.Lend l) = []
-lines_of (said.Call c) = line.Call ∷ []
-lines_of (said.Refused n) = line.Refused n ∷ []
-lines_of said.Unread = line.Unread ∷ []
+abbrev pub lines_of : {N : Type 0} → Result (Said N) Uncalled → List Line
+lines_of (Ok said.Blank) = []
+lines_of (Ok (said.Lend l)) = []
+lines_of (Ok (said.Call c)) = Ok tt ∷ []
+lines_of (Err u) = Err u ∷ []
 
 -- the length of the string that the last seal wrote, after one more answer
 abbrev pub sealed_after : Option ℕ → Answer → Option ℕ

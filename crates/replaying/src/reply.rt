@@ -1,3 +1,4 @@
+use crate::uncalled::Uncalled;
 use runs::answer::{Answer, Outcome};
 use runs::fault::PressFault;
 use std::fmt;
@@ -7,10 +8,17 @@ use std::fmt;
 pub enum Reply {
     /// The call was made.
     Called(Answer),
-    /// The name or the way was refused with this number, and no call was made.
-    Refused(u8),
-    /// The line is no step.
-    Unread,
+    /// No call was made.
+    Uncalled(Uncalled),
+}
+
+// A refusal with its number, and the level that no rotation fits.
+fn refused<W: fmt::Write>(fault: PressFault, f: &mut fmt::Formatter<W>) -> fmt::Result {
+    let number = fault.number();
+    match fault.level() {
+        Some(level) => write!(f, "refused {number} {level}"),
+        None => write!(f, "refused {number}"),
+    }
 }
 
 impl fmt::Display for Reply {
@@ -25,13 +33,8 @@ impl fmt::Display for Reply {
             ),
             Reply::Called(Ok(Outcome::Reopened)) => write!(f, "reopened"),
             Reply::Called(Ok(Outcome::Sealed(len))) => write!(f, "sealed {len}"),
-            Reply::Called(Err(PressFault::Unfit(level))) => write!(f, "refused 19 {level}"),
-            Reply::Called(Err(fault)) => {
-                let number = fault.number();
-                write!(f, "refused {number}")
-            }
-            Reply::Refused(number) => write!(f, "refused {number}"),
-            Reply::Unread => write!(f, "unread"),
+            Reply::Called(Err(fault)) => refused(fault, f),
+            Reply::Uncalled(reason) => write!(f, "{reason}"),
         }
     }
 }

@@ -1,4 +1,4 @@
-ghost use Rattle.std.specs.Prelude.{◌≡◌, ◌++◌, ◌∷◌, [], OnOk, IfOk, fold, length};
+ghost use Rattle.std.specs.Prelude.{◌≡◌, ◌++◌, ◌∷◌, [], Ok, OnOk, IfOk, fold, length};
 ghost use Rattle.lending.specs.Full.{IsFull};
 ghost use Rattle.replaying.specs.Performed.{run_answers, run_end, HoldsItsString};
 ghost use Rattle.replaying.specs.Lines.{reply_to, lines_of, sealed_after as after, front};
@@ -6,6 +6,7 @@ ghost use Rattle.std.specs.Option.{option_copied};
 
 use crate::reply::Reply;
 use crate::said::{FULLY_LENT, Lent, ProposedWay, Said};
+use crate::uncalled::Uncalled;
 use lending::{LONGEST_STRING, WorkLists, filled};
 use mixed_ways::kept::KeptList;
 use mixed_ways::mixed::Mixed;
@@ -19,24 +20,16 @@ use typing::typed::Typed;
 use ways::stride::StrideWay;
 use ways::way::Way;
 
-/// A line that is answered: by the next call, with a refusal of its name or its way, or as unread.
-#[derive(Clone, Copy, Drop)]
-pub enum Line {
-    Call,
-    Refused(u8),
-    Unread,
-}
+/// A line that is answered: by the next call, or with why it makes none.
+pub type Line = Result<(), Uncalled>;
 
-impl Line {
-    /// What the line is answered; the answer is that of its call.
-    pub fn reply(self, answer: Answer) -> Reply
-        ensures { result ≡ reply_to self answer }
-    {
-        match self {
-            Line::Call => Reply::Called(answer),
-            Line::Refused(number) => Reply::Refused(number),
-            Line::Unread => Reply::Unread,
-        }
+/// What a line is answered; the answer is that of its call.
+pub fn reply(line: Line, answer: Answer) -> Reply
+    ensures { result ≡ reply_to line answer }
+{
+    match line {
+        Ok(()) => Reply::Called(answer),
+        Err(reason) => Reply::Uncalled(reason),
     }
 }
 
@@ -85,27 +78,26 @@ impl<N: Typed> Session<N> {
 
     // Adds a call, with what it is lent.
     fn add_call(&mut self, call: Call<N, ProposedWay>) -> Result<(), AllocError>
-        ensures { OnOk result (self.new.lines.items ≡ self.old.lines.items ++ (Line.Call ∷ [])) }
+        ensures { OnOk result (self.new.lines.items ≡ self.old.lines.items ++ (Ok tt ∷ [])) }
     {
         self.script.push(Step {
             call,
             lengths: self.lent.lists,
             room: self.lent.string,
         })?;
-        self.lines.push(Line::Call)?;
+        self.lines.push(Ok(()))?;
         Ok(())
     }
 
     /// Adds what a line says.
-    pub fn add(&mut self, said: Said<N>) -> Result<(), AllocError>
+    pub fn add(&mut self, said: Result<Said<N>, Uncalled>) -> Result<(), AllocError>
         ensures { OnOk result (self.new.lines.items ≡ self.old.lines.items ++ lines_of said) }
     {
         match said {
-            Said::Blank => {}
-            Said::Lend(lent) => self.lent = lent,
-            Said::Call(call) => self.add_call(call)?,
-            Said::Refused(number) => self.lines.push(Line::Refused(number))?,
-            Said::Unread => self.lines.push(Line::Unread)?,
+            Ok(Said::Blank) => {}
+            Ok(Said::Lend(lent)) => self.lent = lent,
+            Ok(Said::Call(call)) => self.add_call(call)?,
+            Err(reason) => self.lines.push(Err(reason))?,
         }
         Ok(())
     }
@@ -139,13 +131,10 @@ impl Replayed {
     pub fn plate(&self) -> Option<&[u8]>
         ensures { option_copied result ≡ front (fold after None self.now.answers.items) self.now.string.items }
     {
-        let sealed = self
+        let len = self
             .answers
             .iter()
-            .fold(None, |sealed, answer| sealed_after(sealed, *answer));
-        match sealed {
-            Some(len) => self.string.get(0..len),
-            None => None,
-        }
+            .fold(None, |sealed, answer| sealed_after(sealed, *answer))?;
+        self.string.get(0..len)
     }
 }

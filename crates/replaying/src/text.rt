@@ -1,21 +1,15 @@
-use crate::reply::Reply;
 use crate::said::read_line;
-use crate::session::{Line, Replayed, Session};
+use crate::session::{Line, Replayed, Session, reply};
+use crate::uncalled::Uncalled;
 use names::cell::DayCell;
-use names::fault::NameFault;
-use names::kind::Kind;
 use names::point::PointName;
 use runs::answer::{Answer, Outcome};
 use std::alloc::{AllocError, Global};
 use std::str::Lines;
+use typing::kinds::NameKind;
 use typing::numbers::number;
-use typing::text::{Hex, append};
+use typing::text::append;
 use typing::typed::Typed;
-
-// A line with a reply.
-fn line_of(heap: Global, reply: Reply) -> Result<String, AllocError> {
-    format!(in heap; "{reply}\n")
-}
 
 // Reads the lines of a session.
 fn read_session<N: Typed>(heap: Global, lines: Lines<'_>) -> Result<Session<N>, AllocError> {
@@ -26,20 +20,13 @@ fn read_session<N: Typed>(heap: Global, lines: Lines<'_>) -> Result<Session<N>, 
     Ok(session)
 }
 
-// What the lines are answered.
-fn replies(
-    heap: Global,
-    lines: &[Line],
-    answers: &[Answer],
-    out: &mut String,
-) -> Result<(), AllocError> {
-    let mut made: usize = 0;
+// What the lines are answered: each call has the next answer.
+fn replies(lines: &[Line], answers: &[Answer], out: &mut String) -> Result<(), AllocError> {
+    let mut answers = answers.iter().copied();
     for line in lines {
-        let answer = answers.get(made).copied().unwrap_or(Ok(Outcome::Reopened));
-        append(out, line_of(heap, line.reply(answer)))?;
-        if let Line::Call = *line {
-            made = made.saturating_add(1);
-        }
+        let answer = line.ok().and_then(|()| answers.next());
+        let reply = reply(*line, answer.unwrap_or(Ok(Outcome::Reopened)));
+        writeln!(out, "{reply}")?;
     }
     Ok(())
 }
@@ -48,7 +35,7 @@ fn replies(
 fn sealed(heap: Global, replayed: &Replayed) -> Result<String, AllocError> {
     match replayed.plate() {
         Some(plate) => {
-            let hex = Hex(plate);
+            let hex = hex::encode(heap, plate)?;
             format!(in heap; "string {hex}\n")
         }
         None => Ok(String::new(heap)),
@@ -60,30 +47,18 @@ fn replay_with<N: Typed>(heap: Global, name: N, lines: Lines<'_>) -> Result<Stri
     let session = read_session(heap, lines)?;
     let replayed = session.replayed(heap, name)?;
     let mut out = String::new(heap);
-    replies(heap, &session.lines, &replayed.answers, &mut out)?;
+    replies(&session.lines, &replayed.answers, &mut out)?;
     append(&mut out, sealed(heap, &replayed))?;
     Ok(out)
 }
 
-// The same with a name that may be refused.
-fn replay_if<N: Typed>(
-    heap: Global,
-    name: Result<N, NameFault>,
-    lines: Lines<'_>,
-) -> Result<String, AllocError> {
-    match name {
-        Ok(name) => replay_with(heap, name, lines),
-        Err(fault) => line_of(heap, Reply::Refused(fault.number())),
-    }
-}
-
 // The kind of the line `kind K`.
-fn read_kind(line: &str) -> Option<u64> {
+fn read_kind(line: &str) -> Option<NameKind> {
     let mut words = line.split_whitespace();
     let (Some("kind"), Some(kind), None) = (words.next(), words.next(), words.next()) else {
         return None;
     };
-    number(kind)
+    NameKind::try_from(number(kind)?).ok()
 }
 
 /// Replays a session: its first line is `kind K`, each other one a step. The lists hold arbitrary
@@ -91,8 +66,11 @@ fn read_kind(line: &str) -> Option<u64> {
 pub fn replay(heap: Global, text: &str) -> Result<String, AllocError> {
     let mut lines = text.lines();
     match read_kind(lines.next().unwrap_or("")) {
-        Some(1) => replay_if(heap, PointName::new(b"USED"), lines),
-        Some(2) => replay_if(heap, DayCell::new(999, 366), lines),
-        _ => line_of(heap, Reply::Unread),
+        Some(NameKind::PointNames) => { replay_with(heap, PointName::new(b"USED").unwrap(), lines) }
+        Some(NameKind::DayCells) => replay_with(heap, DayCell::new(999, 366).unwrap(), lines),
+        None => {
+            let unread = Uncalled::Unread;
+            format!(in heap; "{unread}\n")
+        }
     }
 }

@@ -3,7 +3,4 @@
 
 #![tactic(auto)]
 
-mod list;
-mod proposal;
 pub mod report;
-mod triples;

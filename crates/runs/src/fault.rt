@@ -2,6 +2,7 @@ ghost use Rattle.std.specs.Prelude.{◌≡◌};
 ghost use Rattle.runs.specs.Faults.{number as fault_number, carried, of_hashing};
 
 use hashing::fault::HashFault;
+use std::fmt;
 
 /// Why a call to a pressing is refused.
 #[derive(Clone, Copy)]
@@ -73,5 +74,26 @@ impl From<HashFault> for PressFault {
             HashFault::VertexCount => PressFault::VertexCount,
             HashFault::SeedRange => PressFault::Seed,
         }
+    }
+}
+
+/// The number of the refusal and what it means.
+impl fmt::Display for PressFault {
+    fn fmt<W: fmt::Write>(&self, f: &mut fmt::Formatter<W>) -> fmt::Result {
+        let number = self.number();
+        let meaning = match self {
+            PressFault::WrongStage => "the call does not belong to the stage",
+            PressFault::ShortList => "a work list is too short",
+            PressFault::TooManyNames => "more than 1,024 names",
+            PressFault::SpellingEntered => "a name with this spelling was entered before",
+            PressFault::WaySize => "the way's size is not the number of names",
+            PressFault::NoName => "no name",
+            PressFault::VertexCount => "r is not from 1 to 1,024",
+            PressFault::Seed => "the seed is not from 1 to 2,147,483,646",
+            PressFault::Clash => "two names have one triple",
+            PressFault::Unfit(_) => "no rotation of the way fits",
+            PressFault::ShortString => "the memory for the string is too short",
+        };
+        write!(f, "refused {number}: {meaning}")
     }
 }

@@ -1,7 +1,8 @@
-//! Text of a works: names, numbers and settings as people type them, and bytes as they read them.
+//! Text of a works: kinds, names, numbers and settings as people type them.
 
 #![tactic(auto)]
 
+pub mod kinds;
 pub mod numbers;
 pub mod text;
 pub mod typed;

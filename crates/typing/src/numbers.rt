@@ -17,6 +17,32 @@ pub fn number(word: &str) -> Option<u64>
     }
 }
 
+/// A way of reading numbers, which reads each number below the largest of 64 bits, and nothing else as one.
+pub trait Reading {
+    /// The number that a word writes, if it is read.
+    fn number(word: &str) -> Option<u64>
+        ensures read { Writes word.now → written_number word.now < 18446744073709551615 → result ≡ Some (written_number word.now) }
+        ensures only { IfSome result (λ x. x < 18446744073709551615 → Writes word.now × (x ≡ written_number word.now)) };
+}
+
+/// Reads a number of more than 64 bits as the largest of them.
+pub struct Capped;
+
+impl Reading for Capped {
+    fn number(word: &str) -> Option<u64> {
+        number(word)
+    }
+}
+
+/// Reads no number of more than 64 bits.
+pub struct Whole;
+
+impl Reading for Whole {
+    fn number(word: &str) -> Option<u64> {
+        word.parse::<u64>().ok()
+    }
+}
+
 /// The number, or 0 where it is too large for 16 bits: for numbers whose range has no 0.
 pub fn or_0(x: u64) -> u16
     ensures { result ≡ (if nat_lt x 65536 then x else 0) }

@@ -1,60 +1,53 @@
-use crate::numbers::{number, or_0};
+ghost use Rattle.std.specs.Prelude.{◌≡◌};
+ghost use Rattle.typing.specs.declared.typed.Unlisted.TheVariants.{Refused};
+
+use crate::numbers::{Reading, or_0};
 use names::cell::DayCell;
 use names::fault::NameFault;
 use names::kind::Kind;
 use names::point::PointName;
-use std::alloc::{AllocError, Global};
+use std::fmt;
 use std::str::SplitWhitespace;
 
-/// What the words of a line say.
-#[derive(Clone, Copy, Drop)]
-pub enum Line<N> {
-    /// A name with its setting.
-    Entry(N, u16),
+/// Why words give no name with its setting.
+#[derive(Clone, Copy, PartialEq, Eq, Debug, Drop)]
+pub enum Unlisted {
     /// What stands for the name is outside the ranges.
     Refused(NameFault),
     /// The words are not a name and a setting from 0 to 65,535.
     Unread,
 }
 
-/// A kind of name that people type and read.
-pub trait Typed: Kind {
-    /// Reads the words of a name and a setting, which have to be all that there are.
-    fn read(words: SplitWhitespace<'_>) -> Line<Self>;
+impl From<NameFault> for Unlisted {
+    ghost from_gives = { λ f u. u ≡ Refused f };
 
-    /// The name and its spelling as text.
-    fn text(&self, heap: Global) -> Result<String, AllocError>;
+    fn from(fault: NameFault) -> Unlisted {
+        Unlisted::Refused(fault)
+    }
+}
+
+/// A kind of name that people type and read.
+pub trait Typed: Kind + fmt::Display {
+    /// Reads the words of a name and a setting, which have to be all that there are.
+    fn read<R: Reading>(words: SplitWhitespace<'_>) -> Result<(Self, u16), Unlisted>;
 
     /// What a name has to be.
     fn rule() -> &'static str;
 }
 
-/// The line of a name, or of its refusal.
-fn entered<N: Kind>(name: Result<N, NameFault>, setting: u16) -> Line<N> {
-    match name {
-        Ok(name) => Line::Entry(name, setting),
-        Err(fault) => Line::Refused(fault),
-    }
+// Reads a setting.
+fn setting(word: &str) -> Result<u16, Unlisted> {
+    word.parse::<u16>().map_err(|_| Unlisted::Unread)
 }
 
 /// `NAME SETTING`
 impl Typed for PointName {
-    fn read(mut words: SplitWhitespace<'_>) -> Line<PointName> {
-        let (Some(name), Some(setting), None) = (words.next(), words.next(), words.next()) else {
-            return Line::Unread;
+    fn read<R: Reading>(mut words: SplitWhitespace<'_>) -> Result<(PointName, u16), Unlisted> {
+        let (Some(name), Some(value), None) = (words.next(), words.next(), words.next()) else {
+            return Err(Unlisted::Unread);
         };
-        match setting.parse::<u16>() {
-            Ok(setting) => entered(PointName::new(name.as_bytes()), setting),
-            Err(_) => Line::Unread,
-        }
-    }
-
-    fn text(&self, heap: Global) -> Result<String, AllocError> {
-        let mut out = String::new(heap);
-        for b in self.text() {
-            out.push(*b as char)?;
-        }
-        Ok(out)
+        let setting = setting(value)?;
+        Ok((PointName::new(name.as_bytes())?, setting))
     }
 
     fn rule() -> &'static str {
@@ -64,26 +57,19 @@ impl Typed for PointName {
 
 /// `PAN DAY SETTING`
 impl Typed for DayCell {
-    fn read(mut words: SplitWhitespace<'_>) -> Line<DayCell> {
-        let (Some(pan), Some(day), Some(setting), None) = (
+    fn read<R: Reading>(mut words: SplitWhitespace<'_>) -> Result<(DayCell, u16), Unlisted> {
+        let (Some(pan), Some(day), Some(value), None) = (
             words.next(),
             words.next(),
             words.next(),
             words.next(),
         ) else {
-            return Line::Unread;
+            return Err(Unlisted::Unread);
         };
-        let (Some(pan), Some(day), Ok(setting)) = (number(pan), number(day), setting.parse::<u16>())
-        else {
-            return Line::Unread;
-        };
-        entered(DayCell::new(or_0(pan), or_0(day)), setting)
-    }
-
-    fn text(&self, heap: Global) -> Result<String, AllocError> {
-        let (pan, day) = self.pan_and_day();
-        let (a, b, c, d) = (self.byte(1), self.byte(2), self.byte(3), self.byte(4));
-        format!(in heap; "pan {pan} day {day}, spelled {a} {b} {c} {d},")
+        let pan = R::number(pan).ok_or(Unlisted::Unread)?;
+        let day = R::number(day).ok_or(Unlisted::Unread)?;
+        let setting = setting(value)?;
+        Ok((DayCell::new(or_0(pan), or_0(day))?, setting))
     }
 
     fn rule() -> &'static str {

@@ -1,8 +1,6 @@
-//! A works' list of names and settings as people type it, and the report on it.
+//! The report on a works' list of names and settings: the triples, a way of trying, and whether two
+//! names clash.
 
 #![tactic(auto)]
 
-mod append;
-mod proposal;
 pub mod report;
-pub mod typed;

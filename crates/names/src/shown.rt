@@ -1,0 +1,24 @@
+use crate::cell::DayCell;
+use crate::kind::Kind;
+use crate::point::PointName;
+use std::fmt;
+
+/// The bytes of the name, each as its character.
+impl fmt::Display for PointName {
+    fn fmt<W: fmt::Write>(&self, f: &mut fmt::Formatter<W>) -> fmt::Result {
+        for byte in self.text() {
+            let letter = char::from(*byte);
+            write!(f, "{letter}")?;
+        }
+        Ok(())
+    }
+}
+
+/// The pan, the day and the four bytes of the spelling.
+impl fmt::Display for DayCell {
+    fn fmt<W: fmt::Write>(&self, f: &mut fmt::Formatter<W>) -> fmt::Result {
+        let (pan, day) = self.pan_and_day();
+        let (a, b, c, d) = (self.byte(1), self.byte(2), self.byte(3), self.byte(4));
+        write!(f, "pan {pan} day {day}, spelled {a} {b} {c} {d},")
+    }
+}
