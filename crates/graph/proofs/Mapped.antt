@@ -30,7 +30,6 @@ module _ (t : List ℕ) (n r : ℕ) (s : List ℕ) (long : 12288 ≤ length t) (
 -- what the test of the lengths says
 pub record Fitted (count r rows tables edges vertices : ℕ) : Type 0 where
   pub few : count ≤ 1024
-  pub rows_there : count ≤ rows
   pub tables_there : 12288 ≤ tables
   pub edges_there : count ≤ edges
   pub vertices_there : 2 * r ≤ vertices
@@ -43,7 +42,6 @@ fitted count r rows tables edges vertices h =
     let e = and_parts (leb count edges) (leb (2 * r) vertices) d.1 in
     record {
       few = leb-true count 1024 a.0;
-      rows_there = leb-true count rows b.0;
       tables_there = leb-true 12288 tables d.0;
       edges_there = leb-true count edges e.0;
       vertices_there = leb-true (2 * r) vertices e.1;

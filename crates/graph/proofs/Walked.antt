@@ -97,9 +97,6 @@ module _ (low : Bool) (edges : List Edge) (at row next : ℕ) (e : Edge) (is : a
       ap (λ xs. (row, e) ∷ xs) (sym (walk_taken low edges row row next (omega arith))) ∙
       ap (λ k. (row, e) ∷ walk_below low (take row edges) k next) (sym (length-take-le row edges (omega arith)))
 
-  pub walk_less : length (walk low (take row edges) next) < length (walk low edges at)
-  walk_less = omega (arith, ap length walk_steps)
-
 -- the rows that pass are those that are listed
 module _ (p : ℕ → Bool) (edges : List Edge) where
   -- what stands at the place k

@@ -2,7 +2,6 @@
 use Rattle.std.proofs.Common.{◌≡◌, ℕ, ◌*◌, ◌<◌, ◌≤◌, true, ◌&&◌, ltb, leb, List, ◌++◌, length, get_or, take, drop, set, is_some, Some, None, Option, sym, refl, ap, ◌∙◌, subst, inl, inr, arith}
 use Rattle.std.proofs.lemmas.Bool.{cases_eq, and_parts, leb-true, ltb-true}
 use Rattle.std.proofs.lemmas.List.{length-take-le, get_or-take, get_or-set_same, get_or-set_other, drop-set-lt, take_more, take_at}
-use Rattle.std.proofs.lemmas.Slice.{drop-append-drop}
 use Rattle.std.proofs.ByRecursion.{All-get_or, All-weaker}
 use Rattle.std.proofs.lemmas.List.FromFn.{get_or-map-range_with_len}
 use Rattle.hashing.specs.Triples.{Triple}
@@ -75,11 +74,6 @@ module _ (vertices : List Vertex) (v x : ℕ) (low : v < length vertices) where
         sym (ap (λ w. get_or (set values v x) w 0) e ∙ get_or-set_same values v x 0 l)
     | inr e ↦ ap (λ (a : Vertex). a.value) (get_or-set_other vertices v u (valued x (row vertices v)) bare e) ∙ h ∙ sym (get_or-set_other values v u x 0 e)
   ]
-
--- slots past a part in which names were placed
-pub past_same : (n m x : ℕ) (names : List LevelName) (slots part' : List (Option ℕ)) → m ≡ n → n ≤ length slots → part' ≡ placed x names (take m slots) → drop n (part' ++ drop m slots) ≡ drop n slots
-past_same n m x names slots part' e there rows =
-    drop-append-drop m slots part' n (omega arith) (ap length rows ∙ length_placed x names (take m slots) ∙ length-take-le m slots (omega arith))
 
 pub given_is : (n m v x : ℕ) (vertices vertices' : List Vertex) (slots slots' : List (Option ℕ)) → v < m → m ≤ length vertices → vertices' ≡ set vertices v (valued x (row vertices v)) → drop n slots' ≡ drop n slots →
     LevelGiven n m v x vertices vertices' slots slots'

@@ -1,7 +1,8 @@
 -- A walk along the chain of a vertex collects the names of its level.
-use Rattle.std.proofs.Common.{◌≡◌, ℕ, zero, suc, ◌+◌, ◌-◌, ◌*◌, ◌%◌, ◌<◌, ◌≤◌, Bool, true, false, cond, ◌&&◌, ◌||◌, eqb, ltb, List, [], ◌∷◌, ◌++◌, length, get_or, take, set, Some, None, Option, sym, refl, ap, ◌∙◌, ap₂, inl, inr, arith}
-use Rattle.std.proofs.lemmas.Bool.{cases_lt, ne_eqb, eqb-true, or_parts, lt-ltb, le-ltb, cond-true, cond-false}
-use Rattle.std.proofs.lemmas.List.{append-nil, append_assoc, take_more_set}
+use Rattle.std.proofs.Common.{◌≡◌, ℕ, zero, suc, ◌+◌, ◌*◌, ◌%◌, ◌<◌, ◌≤◌, Bool, true, false, cond, ◌&&◌, ◌||◌, eqb, ltb, List, [], ◌∷◌, ◌++◌, length, get_or, take, set, Some, None, Option, sym, refl, ap, ◌∙◌, ap₂, subst, inl, inr, arith}
+use Rattle.std.specs.List.{filter_map, cons_option}
+use Rattle.std.proofs.lemmas.Bool.{cases_lt, cases_Bool, ne_eqb, or_parts, lt-ltb, le-ltb, cond-true, cond-false}
+use Rattle.std.proofs.lemmas.List.{append-nil, take_more_set}
 use Rattle.std.proofs.ByRecursion.{All-get_or}
 use Rattle.hashing.specs.Triples.{Triple}
 use Rattle.runs.specs.Lists.{among}
@@ -10,11 +11,13 @@ use Rattle.runs.specs.Fitting.{far_end, offset}
 use Rattle.runs.proofs.Ordering.{order_lined}
 use Rattle.graph.specs.declared.rows.Edge.{Edge}
 use Rattle.graph.specs.declared.rows.Vertex.{Vertex}
-use Rattle.graph.specs.Chains.{nil, Halves, latest, at_vertex, same1, same2, Linked, Graph, link, row}
-use Rattle.graph.proofs.Latest.{latest_same, latest_le, latest_past, latest_passes, touches_low, touches_high}
+use Rattle.graph.specs.Chains.{nil, Halves, at_vertex, Linked, Graph, link, row}
+use Rattle.graph.specs.Walks.{rows_where}
+use Rattle.graph.proofs.Latest.{touches_low, touches_high}
+use Rattle.graph.proofs.Walked.{listed_passes}
 use Rattle.ordering.specs.Queue.{Placed}
 use Rattle.fitting.specs.declared.level.LevelName.{LevelName}
-use Rattle.leveling.specs.Level.{comes_before, Valued, down, in_level, level_name, chain_names}
+use Rattle.leveling.specs.Level.{comes_before, Valued, in_level, level_name, chain_names}
 use Rattle.leveling.proofs.Earlier.{earlier_is}
 
 or_false : (x : Bool) → (x || false) ≡ x
@@ -35,133 +38,121 @@ none_cond : (b : Bool) (y : ℕ) → None ≡ cond b (Some y) None → b ≡ fal
 none_cond true y h = absurd (let z : ◌≡◌ {A = ℕ} 0 1 = cc in omega arith)
 none_cond false y h = refl
 
--- numbers that do not pass do not matter
-down_skip : (p : ℕ → Bool) (f : ℕ → LevelName) (k a b : ℕ) → a + k ≡ b → ((i : ℕ) → a ≤ i → i < b → p i ≡ false) → down p f b ≡ down p f a
-down_skip p f zero a b e h = let q : b ≡ a = omega arith in ap (down p f) q
-down_skip p f (suc k) a zero e h = absurd (omega arith)
-down_skip p f (suc k) a (suc b) e h = cond-false (p b) _ _ (h b (omega arith) (omega arith)) ∙ down_skip p f k a b (omega arith) (λ i l m. h i l (omega arith))
+cons_cond : {X : Type 0} (b : Bool) (x : X) (xs : List X) → cons_option (cond b (Some x) None) xs ≡ cond b (x ∷ xs) xs
+cons_cond true x xs = refl
+cons_cond false x xs = refl
 
-down_here : (p : ℕ → Bool) (f : ℕ → LevelName) (at : ℕ) → 0 < at → down p f at ≡ cond (p (at - 1)) (f (at - 1) ∷ down p f (at - 1)) (down p f (at - 1))
-down_here p f zero h = absurd (omega arith)
-down_here p f (suc k) h = let e : suc k - 1 ≡ k = omega arith in rw e refl
+filter_map_push : {X Y : Type 0} (g : X → Option Y) (xs : List X) (x : X) (o : Option Y) → g x ≡ o → filter_map g (xs ++ x ∷ []) ≡ filter_map g xs ++ cons_option o []
+filter_map_push g [] x o e = ap (λ p. cons_option p []) e
+filter_map_push g (y ∷ xs) x o e = ap (cons_option (g y)) (filter_map_push g xs x o e) ∙ cons_front (g y) (filter_map g xs) (cons_option o [])
+  where
+    cons_front : {Z : Type 0} (p : Option Z) (xs ys : List Z) → cons_option p (xs ++ ys) ≡ cons_option p xs ++ ys
+    cons_front None xs ys = refl
+    cons_front (Some z) xs ys = refl
 
--- the first k names are those of the edges from `bound` on, and `at` leads to the next edge
-pub record Collected (es : List Triple) (n : ℕ) (values vs : List ℕ) (v bound at k : ℕ) (names : List LevelName) : Type 0 where
-  pub leads : at ≡ latest (at_vertex es v) bound
-  pub listed : take k names ++ chain_names es n values vs v bound ≡ chain_names es n values vs v n
+-- the name that an edge of the chain gives the level
+abbrev pub name_of : List Triple → ℕ → List ℕ → List ℕ → ℕ → ℕ × Edge → Option LevelName
+name_of es n values vs v p = cond (in_level es vs v p.0) (Some (level_name es n values v p.0)) None
 
-module _ (es : List Triple) (n : ℕ) (values vs : List ℕ) (v : ℕ) (names : List LevelName) where
-  pub walk_begins : (r : ℕ) (edges : List Edge) (vertices : List Vertex) → Graph es r edges vertices → v < 2 * r → length es ≡ n → Collected es n values vs v n (row vertices v).first 0 names
-  walk_begins r edges vertices g l e = record { leads = (g.vertex v l).first ∙ ap (latest (at_vertex es v)) e; listed = refl }
+-- the edges of v give its level
+walk_names : (es : List Triple) (n : ℕ) (values vs : List ℕ) (v : ℕ) (edges : List Edge) (k : ℕ) → filter_map (name_of es n values vs v) (rows_where (at_vertex es v) edges k) ≡ chain_names es n values vs v k
+walk_names es n values vs v edges zero = refl
+walk_names es n values vs v edges (suc k) = elim (cases_Bool (at_vertex es v k)) [
+  | inl e ↦
+      ap (filter_map (name_of es n values vs v)) (cond-true (at_vertex es v k) _ _ e) ∙
+      ap (cons_option (name_of es n values vs v (k, link edges k))) (walk_names es n values vs v edges k) ∙
+      cons_cond (in_level es vs v k) (level_name es n values v k) (chain_names es n values vs v k)
+  | inr e ↦
+      ap (filter_map (name_of es n values vs v)) (cond-false (at_vertex es v k) _ _ e) ∙ walk_names es n values vs v edges k ∙
+      sym (cond-false (in_level es vs v k) _ _ (joins_miss vs v (get_or es k nil) e))
+]
 
-  module _ (bound at k : ℕ) (w : Collected es n values vs v bound at k names) where
-    skip : at ≤ bound → chain_names es n values vs v bound ≡ chain_names es n values vs v at
-    skip l = down_skip (in_level es vs v) (level_name es n values v) (bound - at) at bound (omega arith)
-        (λ i m o. joins_miss vs v (get_or es i nil) (latest_past (at_vertex es v) bound i (omega (arith, w.leads)) o))
+-- the first k names are those of the edges that were met
+module _ (es : List Triple) (n : ℕ) (values vs : List ℕ) (v k : ℕ) (names : List LevelName) (met : List (ℕ × Edge)) (h : take k names ≡ filter_map (name_of es n values vs v) met) where
+  pub names_end : (edges : List Edge) → met ≡ rows_where (at_vertex es v) edges n → take k names ≡ chain_names es n values vs v n
+  names_end edges e = h ∙ ap (filter_map (name_of es n values vs v)) e ∙ walk_names es n values vs v edges n
 
-    pub walk_ends : (0 < at → at ≤ bound → ⊥) → take k names ≡ chain_names es n values vs v n
-    walk_ends stop =
-        let low = latest_le (at_vertex es v) bound in
-        let z : at ≡ 0 = elim (cases_lt 0 at) [ inl p ↦ absurd (stop p (omega (arith, w.leads))) | inr p ↦ omega arith ] in
-        sym (append-nil (take k names)) ∙
-        ap (λ xs. take k names ++ xs) (sym (skip (omega (arith, w.leads)) ∙ ap (chain_names es n values vs v) z)) ∙ w.listed
+  module _ (x : ℕ × Edge) (o : Option ℕ) (told : o ≡ cond (in_level es vs v x.0) (Some (offset n values v (get_or es x.0 nil))) None) where
+    pub names_take : (y : ℕ) → o ≡ Some y → k < length names → take (k + 1) (set names k (record { row = x.0; offset = y })) ≡ filter_map (name_of es n values vs v) (met ++ x ∷ [])
+    names_take y is l =
+        let t = some_cond (in_level es vs v x.0) y (offset n values v (get_or es x.0 nil)) (sym is ∙ told) in
+        take_more_set names k (record { row = x.0; offset = y }) l ∙ ap (λ z. take k names ++ record { row = x.0; offset = z } ∷ []) t.1 ∙
+        ap (λ xs. xs ++ level_name es n values v x.0 ∷ []) h ∙ sym (filter_map_push (name_of es n values vs v) met x (Some (level_name es n values v x.0)) (cond-true (in_level es vs v x.0) _ _ t.0))
 
-    -- the edge that is met now is in the level, or it is not
-    pub walk_takes : (next : ℕ) (y : LevelName) → 0 < at → at ≤ bound → k < length names → in_level es vs v (at - 1) ≡ true → y ≡ level_name es n values v (at - 1) →
-        next ≡ latest (at_vertex es v) (at - 1) → Collected es n values vs v (at - 1) next (k + 1) (set names k y)
-    walk_takes next y p b l t ey en = record {
-      leads = en;
-      listed =
-          ap (λ xs. xs ++ chain_names es n values vs v (at - 1)) (take_more_set names k y l) ∙ append_assoc (take k names) (y ∷ []) (chain_names es n values vs v (at - 1)) ∙
-          ap (λ z. take k names ++ z ∷ chain_names es n values vs v (at - 1)) ey ∙
-          ap (λ xs. take k names ++ xs) (sym (skip b ∙ down_here (in_level es vs v) (level_name es n values v) at p ∙ cond-true (in_level es vs v (at - 1)) _ _ t)) ∙ w.listed;
-    }
+    pub names_pass : o ≡ None → take k names ≡ filter_map (name_of es n values vs v) (met ++ x ∷ [])
+    names_pass is =
+        let t = none_cond (in_level es vs v x.0) (offset n values v (get_or es x.0 nil)) (sym is ∙ told) in
+        h ∙ sym (append-nil (filter_map (name_of es n values vs v) met)) ∙ sym (filter_map_push (name_of es n values vs v) met x None (cond-false (in_level es vs v x.0) _ _ t))
 
-    pub walk_passes : (next : ℕ) → 0 < at → at ≤ bound → in_level es vs v (at - 1) ≡ false → next ≡ latest (at_vertex es v) (at - 1) → Collected es n values vs v (at - 1) next k names
-    walk_passes next p b t en = record {
-      leads = en;
-      listed = ap (λ xs. take k names ++ xs) (sym (skip b ∙ down_here (in_level es vs v) (level_name es n values v) at p ∙ cond-false (in_level es vs v (at - 1)) _ _ t)) ∙ w.listed;
-    }
+-- an edge of v
+module _ (es : List Triple) (r : ℕ) (edges : List Edge) (vertices : List Vertex) (g : Graph es r edges vertices) (v : ℕ) where
+  abbrev far_of : Edge → ℕ
+  far_of e = cond (ltb v r) e.h2 e.h1
 
--- the edge to which `at` leads
-module _ (es : List Triple) (r : ℕ) (edges : List Edge) (vertices : List Vertex) (g : Graph es r edges vertices) (v bound at : ℕ)
-    (lead : at ≡ latest (at_vertex es v) bound) (p : 0 < at) (b : at ≤ bound) (n : bound ≤ length es) where
-  abbrev t : Triple
-  t = get_or es (at - 1) nil
+  module _ (j : ℕ) (m : j < length es) (there : at_vertex es v j ≡ true) where
+    abbrev t : Triple
+    t = get_or es j nil
 
-  h : Halves r t
-  h = All-get_or (Halves r) es (at - 1) nil (omega arith) g.halves
+    h : Halves r t
+    h = All-get_or (Halves r) es j nil m g.halves
 
-  e : Linked es (at - 1) (link edges (at - 1))
-  e = g.edge (at - 1) (omega arith)
+    e : Linked es j (link edges j)
+    e = g.edge j m
 
-  there : touches v t ≡ true
-  there = latest_passes (at_vertex es v) bound (at - 1) (sym lead ∙ omega arith)
+    -- the far end decides whether the edge is in the level
+    pub record Met (vs : List ℕ) : Type 0 where
+      pub far : far_of (link edges j) ≡ far_end v t
+      pub below : far_of (link edges j) < 2 * r
+      pub joined : joins vs v t ≡ among (far_of (link edges j)) vs
 
-  halves_at : (i : ℕ) → i < at → Halves r (get_or es i nil)
-  halves_at i l = All-get_or (Halves r) es i nil (omega arith) g.halves
+    met_low : (vs : List ℕ) → v < r → Met vs
+    met_low vs l =
+        let is : eqb v t.h1 ≡ true = sym (touches_low r v t h l) ∙ there in
+        let far_is : far_of (link edges j) ≡ t.h2 = cond-true (ltb v r) _ _ (lt-ltb v r l) ∙ e.h2 in
+        record {
+          far = far_is ∙ sym (cond-true (eqb v t.h1) _ _ is);
+          below = omega (arith, far_is, h.below);
+          joined = ap₂ (λ x y. (x && among t.h2 vs) || (y && among t.h1 vs)) is (ne_eqb v t.h2 (λ q. omega (arith, h.high))) ∙ or_false (among t.h2 vs) ∙ ap (λ u. among u vs) (sym far_is);
+        }
 
-  abbrev far_of : ℕ
-  far_of = cond (ltb v r) (link edges (at - 1)).h2 (link edges (at - 1)).h1
+    met_high : (vs : List ℕ) → r ≤ v → Met vs
+    met_high vs l =
+        let is : eqb v t.h2 ≡ true = sym (touches_high r v t h l) ∙ there in
+        let is_not : eqb v t.h1 ≡ false = ne_eqb v t.h1 (λ q. omega (arith, h.low)) in
+        let far_is : far_of (link edges j) ≡ t.h1 = cond-false (ltb v r) _ _ (le-ltb v r l) ∙ e.h1 in
+        record {
+          far = far_is ∙ sym (cond-false (eqb v t.h1) _ _ is_not);
+          below = omega (arith, far_is, h.low);
+          joined = ap₂ (λ x y. (x && among t.h2 vs) || (y && among t.h1 vs)) is_not is ∙ ap (λ u. among u vs) (sym far_is);
+        }
 
-  abbrev onward_of : ℕ
-  onward_of = cond (ltb v r) (link edges (at - 1)).next1 (link edges (at - 1)).next2
-
-  -- the link leads on, and the far end decides whether the edge is in the level
-  pub record Met (vs : List ℕ) : Type 0 where
-    pub onward : onward_of ≡ latest (at_vertex es v) (at - 1)
-    pub far : far_of ≡ far_end v t
-    pub below : far_of < 2 * r
-    pub joined : joins vs v t ≡ among far_of vs
-    pub first : (link edges (at - 1)).h0 ≡ t.h0
-
-  met_low : (vs : List ℕ) → v < r → Met vs
-  met_low vs l =
-      let is : eqb v t.h1 ≡ true = sym (touches_low r v t h l) ∙ there in
-      let far_is : far_of ≡ t.h2 = cond-true (ltb v r) _ _ (lt-ltb v r l) ∙ e.h2 in
-      record {
-        onward = cond-true (ltb v r) _ _ (lt-ltb v r l) ∙ e.next1 ∙ latest_same (same1 es (at - 1)) (at_vertex es v) (at - 1)
-            (λ i m. ap (λ x. eqb x (get_or es i nil).h1) (sym (eqb-true v t.h1 is)) ∙ sym (touches_low r v (get_or es i nil) (halves_at i (omega arith)) l));
-        far = far_is ∙ sym (cond-true (eqb v t.h1) _ _ is);
-        below = omega (arith, far_is, h.below);
-        joined = ap₂ (λ x y. (x && among t.h2 vs) || (y && among t.h1 vs)) is (ne_eqb v t.h2 (λ q. omega (arith, h.high))) ∙ or_false (among t.h2 vs) ∙ ap (λ u. among u vs) (sym far_is);
-        first = e.h0;
-      }
-
-  met_high : (vs : List ℕ) → r ≤ v → Met vs
-  met_high vs l =
-      let is : eqb v t.h2 ≡ true = sym (touches_high r v t h l) ∙ there in
-      let is_not : eqb v t.h1 ≡ false = ne_eqb v t.h1 (λ q. omega (arith, h.low)) in
-      let far_is : far_of ≡ t.h1 = cond-false (ltb v r) _ _ (le-ltb v r l) ∙ e.h1 in
-      record {
-        onward = cond-false (ltb v r) _ _ (le-ltb v r l) ∙ e.next2 ∙ latest_same (same2 es (at - 1)) (at_vertex es v) (at - 1)
-            (λ i m. ap (λ x. eqb x (get_or es i nil).h2) (sym (eqb-true v t.h2 is)) ∙ sym (touches_high r v (get_or es i nil) (halves_at i (omega arith)) l));
-        far = far_is ∙ sym (cond-false (eqb v t.h1) _ _ is_not);
-        below = omega (arith, far_is, h.low);
-        joined = ap₂ (λ x y. (x && among t.h2 vs) || (y && among t.h1 vs)) is_not is ∙ ap (λ u. among u vs) (sym far_is);
-        first = e.h0;
-      }
-
-  met : (vs : List ℕ) → Met vs
-  met vs = elim (cases_lt v r) [ inl l ↦ met_low vs l | inr l ↦ met_high vs l ]
-
-  pub onward_leads : onward_of ≡ latest (at_vertex es v) (at - 1)
-  onward_leads = (met []).onward
+    met : (vs : List ℕ) → Met vs
+    met vs = elim (cases_lt v r) [ inl l ↦ met_low vs l | inr l ↦ met_high vs l ]
 
   module _ (values : List ℕ) (size level : ℕ) (placed : (u : ℕ) → u < 2 * r → Placed (order es r) u (row vertices u).place) (have : Valued (2 * r) values vertices) where
-    abbrev offset_at : ℕ → Option ℕ
-    offset_at u = cond (ltb u (2 * r) && comes_before level (row vertices u).place) (Some (((link edges (at - 1)).h0 + (row vertices u).value) % size)) None
+    abbrev vs : List ℕ
+    vs = take level (order es r)
 
-    offset_is : offset_at far_of ≡ cond (in_level es (take level (order es r)) v (at - 1)) (Some (offset size values v t)) None
-    offset_is =
-        let w = met (take level (order es r)) in
-        ap (λ c. cond (c && comes_before level (row vertices far_of).place) (Some (((link edges (at - 1)).h0 + (row vertices far_of).value) % size)) None) (lt-ltb far_of (2 * r) w.below) ∙
-        ap (λ c. cond c (Some (((link edges (at - 1)).h0 + (row vertices far_of).value) % size)) None)
-        (earlier_is (2 * r) (order es r) (order_lined es r) level far_of (row vertices far_of).place (placed far_of w.below) ∙ sym w.joined) ∙
-        ap₂ (λ x y. cond (in_level es (take level (order es r)) v (at - 1)) (Some ((x + y) % size)) None) w.first (have far_of w.below ∙ ap (λ u. get_or values u 0) w.far)
+    abbrev offset_at : Edge → ℕ → Option ℕ
+    offset_at x u = cond (ltb u (2 * r) && comes_before level (row vertices u).place) (Some ((x.h0 + (row vertices u).value) % size)) None
 
-    pub offset_taken : (u : ℕ) (o : Option ℕ) (y : ℕ) → u ≡ far_of → o ≡ offset_at u → o ≡ Some y → (in_level es (take level (order es r)) v (at - 1) ≡ true) × (y ≡ offset size values v t)
-    offset_taken u o y eu eo ey = some_cond (in_level es (take level (order es r)) v (at - 1)) y (offset size values v t) (sym ey ∙ eo ∙ ap offset_at eu ∙ offset_is)
+    abbrev Tells : ℕ × Edge → Type 0
+    Tells x = offset_at x.1 (far_of x.1) ≡ cond (in_level es vs v x.0) (Some (offset size values v (get_or es x.0 nil))) None
 
-    pub offset_passed : (u : ℕ) (o : Option ℕ) → u ≡ far_of → o ≡ offset_at u → o ≡ None → in_level es (take level (order es r)) v (at - 1) ≡ false
-    offset_passed u o eu eo en = none_cond (in_level es (take level (order es r)) v (at - 1)) (offset size values v t) (sym en ∙ eo ∙ ap offset_at eu ∙ offset_is)
+    tells_at : (j : ℕ) → j < length es → at_vertex es v j ≡ true → Tells (j, link edges j)
+    tells_at j m p =
+        let w = met j m p vs in
+        let x = link edges j in
+        let u = far_of x in
+        ap (λ b. cond (b && comes_before level (row vertices u).place) (Some ((x.h0 + (row vertices u).value) % size)) None) (lt-ltb u (2 * r) w.below) ∙
+        ap (λ b. cond b (Some ((x.h0 + (row vertices u).value) % size)) None)
+        (earlier_is (2 * r) (order es r) (order_lined es r) level u (row vertices u).place (placed u w.below) ∙ sym w.joined) ∙
+        ap₂ (λ a b. cond (in_level es vs v j) (Some ((a + b) % size)) None) (g.edge j m).h0 (have u w.below ∙ ap (λ i. get_or values i 0) w.far)
+
+    abbrev all : List (ℕ × Edge)
+    all = rows_where (at_vertex es v) edges (length es)
+
+    pub offset_tells : (k : ℕ) (x : ℕ × Edge) → k < length all → x ≡ get_or all k x → (u : ℕ) (o : Option ℕ) → u ≡ far_of x.1 → o ≡ offset_at x.1 u → o ≡ cond (in_level es vs v x.0) (Some (offset size values v (get_or es x.0 nil))) None
+    offset_tells k x l is u o eu eo =
+        let q = listed_passes (at_vertex es v) edges (length es) k l in
+        eo ∙ ap (offset_at x.1) eu ∙ subst Tells (sym (is ∙ q.3 x)) (tells_at q.0 q.1 q.2)

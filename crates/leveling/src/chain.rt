@@ -7,17 +7,14 @@ ghost use Rattle.ordering.specs.Queue.{Placed};
 ghost use Rattle.leveling.specs.Level.{comes_before, Valued, chain_names};
 
 use fitting::level::LevelName;
+use graph::chain::Chain;
 use graph::rows::{Edge, Place, Vertex};
 
 // Whether this place is one of the first `level` of the order.
 fn is_earlier(place: Place, level: usize) -> bool
     ensures { result ≡ comes_before level place }
 {
-    match place {
-        Place::Unseen => false,
-        Place::Waits => false,
-        Place::At(k) => (k as usize) < level,
-    }
+    matches!(place, Place::At(k) if (k as usize) < level)
 }
 
 // The offset of a name with this first number whose edge ends at u, if u is earlier than the level.
@@ -43,35 +40,30 @@ fn offset_by(
 }
 
 // Writes the names of the level of v, the latest first, and answers how many there are: those of the
-// first n edges that join v to a vertex with one of the first `level` places.
+// edges that join v to a vertex with one of the first `level` places.
 pub(crate) fn collect(
     edges: &[Edge],
-    n: usize,
     r: usize,
     vertices: &[Vertex],
     v: usize,
     level: usize,
     names: &mut [LevelName],
 ) -> usize
-    requires { (1 ≤ n) × (n ≤ 1024) × (n ≤ length edges.now) × (r ≤ 1024) × (2 * r ≤ length vertices.now) × (v < 2 * r) × (n ≤ length names.old) }
-    ensures few { result ≤ n }
-    ensures told { (es : List Triple) (values : List ℕ) → length es ≡ n → Graph es r edges.now vertices.now → ((u : ℕ) → u < 2 * r → Placed (order es r) u (row vertices.now u).place) → Valued (2 * r) values vertices.now → take result names.new ≡ chain_names es n values (take level (order es r)) v n }
+    requires { (1 ≤ length edges.now) × (length edges.now ≤ 1024) × (r ≤ 1024) × (2 * r ≤ length vertices.now) × (v < 2 * r) × (length edges.now ≤ length names.old) }
+    ensures few { result ≤ length edges.now }
+    ensures told { (es : List Triple) (values : List ℕ) → length es ≡ length edges.now → Graph es r edges.now vertices.now → ((u : ℕ) → u < 2 * r → Placed (order es r) u (row vertices.now u).place) → Valued (2 * r) values vertices.now → take result names.new ≡ chain_names es (length edges.now) values (take level (order es r)) v (length edges.now) }
 {
+    let n = edges.len();
     let low = v < r;
-    let mut bound = n;
-    let mut at = vertices[v].first as usize;
     let mut k = 0;
-    while 0 < at && at <= bound {
-        bound = at - 1;
-        let e = edges[bound];
+    for (row, e) in Chain::new(edges, vertices[v].first, low) {
         if let Some(offset) = offset_by(e.h0, e.far(low) as usize, 2 * r, vertices, level, n) {
             names[k] = LevelName {
-                row: bound as u16,
+                row: row as u16,
                 offset,
             };
             k += 1;
         }
-        at = e.onward(low) as usize;
     }
     k
 }

@@ -7,44 +7,28 @@ use crate::chain::collect;
 use fitting::level::LevelName;
 use fitting::slots::{fill, first_that_fits};
 use graph::rows::{Edge, Vertex};
+use hashing::sizes::{MOST_NAMES, MOST_ON_A_SIDE};
 use ways::way::Way;
 
-/// The most names, and the most vertices on each side of the graph.
-const MOST: usize = 1024;
-
-// Whether there are names, not too many, and lists of these lengths have the places for a fit.
+// Whether there are names, not too many, and these lists have the places for a fit.
 fn fits(
     n: usize,
     r: usize,
     level: usize,
-    edges: usize,
-    vertices: usize,
-    ordered: usize,
-    slots: usize,
+    edges: &[Edge],
+    vertices: &[Vertex],
+    ordered: &[u16],
+    slots: &[Option<u16>],
 ) -> bool
-    ensures { result ≡ level_fits n r level edges vertices ordered slots }
+    ensures { result ≡ level_fits n r level (length edges.now) (length vertices.now) (length ordered.now) (length slots.now) }
 {
     1 <= n
-        && n <= MOST
-        && n <= edges
-        && r <= MOST
-        && 2 * r <= vertices
-        && level < ordered
-        && n <= slots
-}
-
-// Gives the vertex v this value.
-fn give_value(vertices: &mut [Vertex], v: usize, value: u16)
-    requires { v < length vertices.old }
-    ensures { vertices.new ≡ slice_set vertices.old v (valued value (row vertices.old v)) }
-{
-    let old = vertices[v];
-    vertices[v] = Vertex {
-        first: old.first,
-        degree: old.degree,
-        value,
-        place: old.place,
-    };
+        && n <= MOST_NAMES
+        && n <= edges.len()
+        && r <= MOST_ON_A_SIDE
+        && 2 * r <= vertices.len()
+        && level < ordered.len()
+        && n <= slots.len()
 }
 
 /// Fits the level with this number: the first rotation of the way that fits its names becomes the
@@ -66,26 +50,18 @@ pub fn fit_level<W: Way>(
     ensures given { MatchOption result (Unchanged vertices.old vertices.new slots.old slots.new) (λ x. LevelGiven n (2 * r) (slice_index ordered.now level) x.0 vertices.old vertices.new slots.old slots.new) }
     ensures told { (es : List Triple) (values filled : List ℕ) → level_fits n r level (length edges.now) (length vertices.old) (length ordered.now) (length slots.old) ≡ true → (W.meaning way.now).size ≡ n → LevelHeld es r n values filled level edges.now vertices.old ordered.now slots.old → LevelFitted (W.meaning way.now) es r n values filled level edges.now vertices.new ordered.now slots.new result }
 {
-    if !fits(
-        n,
-        r,
-        level,
-        edges.len(),
-        vertices.len(),
-        ordered.len(),
-        slots.len(),
-    ) {
+    if !fits(n, r, level, edges, vertices, ordered, slots) {
         return None;
     }
     let v = ordered[level] as usize;
     if v >= 2 * r {
         return None;
     }
-    let mut names = [LevelName { row: 0, offset: 0 }; 1024];
-    let k = collect(edges, n, r, vertices, v, level, &mut names);
+    let mut names = [LevelName { row: 0, offset: 0 }; MOST_NAMES];
+    let k = collect(&edges[0..n], r, vertices, v, level, &mut names);
     let (x, tries) = first_that_fits(way, level, &names[0..k], &slots[0..n])?;
     fill(&names[0..k], x, &mut slots[0..n]);
-    give_value(vertices, v, x);
+    vertices[v].value = x;
     Some((x, tries))
 }
 
@@ -126,9 +102,9 @@ mod tests {
         slots: &mut [Option<u16>],
         answers: &[(u16, u16)],
     ) {
-        for level in 0..answers.len() {
+        for (level, answer) in answers.iter().enumerate() {
             let fit = fit_level(way, level, 6, 3, edges, vertices, ordered, slots);
-            assert_eq!(rt; fit, Some(answers[level]));
+            assert_eq!(rt; fit, Some(*answer));
         }
     }
 

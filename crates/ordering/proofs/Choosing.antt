@@ -17,7 +17,7 @@ use Rattle.graph.specs.declared.rows.Vertex.{Vertex}
 use Rattle.graph.specs.declared.rows.Place.{Place}
 use Rattle.graph.specs.declared.rows.Place.TheVariants.{Unseen, Waits, At}
 use Rattle.graph.specs.Chains.{row}
-use Rattle.ordering.specs.Queue.{is_unseen, waiting, Stands, is_of, times_in, Known, Queued, Weighed, Greatest, degree_at, unseen_at, Without, Chosen, Low, at_place}
+use Rattle.ordering.specs.Queue.{is_unseen, waiting, Stands, is_of, times_in, Known, Queued, Weighed, Greatest, degree_at, unseen_at, Without, Chosen, at_place}
 use Rattle.ordering.proofs.Queues.{waiting_is, is_of_same, is_of_other, times_less, unseen_is, moved_there, moved_other}
 
 pub among_at : (vs : List ℕ) (k u : ℕ) → k < length vs → get_or vs k 0 ≡ u → among u vs ≡ true
@@ -184,7 +184,3 @@ module _ (m : ℕ) (weight : ℕ → ℕ) (vs : List ℕ) (seen : ℕ → Bool) 
 
   pub placed : (vertices' : List Vertex) → vertices' ≡ after → Queued m weight (vs ++ v ∷ []) seen vertices' hs'
   placed vertices' e = subst (λ y. Queued m weight (vs ++ v ∷ []) seen y hs') (sym e) placed_now
-
-pub greatest_low : (weight : ℕ → ℕ) (ok : ℕ → Bool) (m : ℕ) (o : Option ℕ) → Greatest weight ok m o → Low m o
-greatest_low weight ok m None h = tt
-greatest_low weight ok m (Some b) h = h.below

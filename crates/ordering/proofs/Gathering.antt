@@ -160,9 +160,6 @@ module _ (es : List Triple) (r : ℕ) (edges : List Edge) (vertices : List Verte
   all = rows_where (at_vertex es v) edges (length es)
 
   module _ (vs : List ℕ) (vertices' : List Vertex) (hs : List Waiting) where
-    pub gather_begins : Queued (2 * r) (degree es) (vs ++ v ∷ []) (joined es vs) vertices' hs → Queued (2 * r) (degree es) (vs ++ v ∷ []) (seen_by es vs (ltb v r) []) vertices' hs
-    gather_begins q = requeued (2 * r) (degree es) (vs ++ v ∷ []) vertices' hs (joined es vs) (seen_by es vs (ltb v r) []) (λ u. sym (or_false (joined es vs u))) q
-
     -- the edge that is met now leads to u
     pub gather_goes : (met : List (ℕ × Edge)) (x : ℕ × Edge) (u : ℕ) → u ≡ far_of (ltb v r) x.1 →
         Queued (2 * r) (degree es) (vs ++ v ∷ []) (λ y. eqb y u || seen_by es vs (ltb v r) met y) vertices' hs → Queued (2 * r) (degree es) (vs ++ v ∷ []) (seen_by es vs (ltb v r) (met ++ x ∷ [])) vertices' hs

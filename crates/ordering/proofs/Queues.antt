@@ -103,10 +103,6 @@ times_past : (m u : ℕ) (xs : List ℕ) → AllByRecursion (λ x. x < m) xs →
 times_past m u [] h l = refl
 times_past m u (x ∷ xs) h l = omega (arith, one_false (eqb u x) (ne_eqb u x (λ e. omega (arith, h.0))), times_past m u xs h.1 l)
 
-pub pushed_length : (w : Waiting) (xs : List Waiting) (n : ℕ) (ys : List Waiting) (k : ℕ) (r : Result (Unit {0}) Waiting) → Pushed w xs n ys k r → length ys ≡ length xs
-pushed_length w xs n ys k (Ok _) h = h.long
-pushed_length w xs n ys k (Err y) h = ap length h.same
-
 pub pushed_room : (w : Waiting) (xs : List Waiting) (n : ℕ) (ys : List Waiting) (k : ℕ) (r : Result (Unit {0}) Waiting) → n < length xs → Pushed w xs n ys k r → IsPermutation (w ∷ take n xs) (take k ys)
 pushed_room w xs n ys k (Ok _) l h = h.content
 pushed_room w xs n ys k (Err y) l h = absurd (omega (arith, h.room))
@@ -119,24 +115,8 @@ module _ (m : ℕ) (weight : ℕ → ℕ) (vs : List ℕ) (vertices : List Verte
     abbrev seen_too : ℕ → Bool
     seen_too u = eqb u x || seen u
 
-    met_at : (p : Place) → is_unseen p ≡ false → Stands vs seen x p → Stands vs seen_too x p
-    met_at Unseen f h = absurd (both_ways true f refl)
-    met_at Waits f h = (h.0, or_left (eqb x x) (seen x) (eq-eqb x x refl))
-    met_at (At k) f h = h
-
     other_seen : (u : ℕ) → (u ≡ x → ⊥) → seen u ≡ seen_too u
     other_seen u e = sym (ap (λ b. b || seen u) (ne_eqb u x e))
-
-    -- a vertex that was seen before is met
-    pub met_again : is_unseen (row vertices x).place ≡ false → Queued m weight vs seen_too vertices hs
-    met_again f = record {
-      stands = λ u a. elim (cases_eq u x) [
-        | inl e ↦ subst (λ y. Stands vs seen_too y (row vertices y).place) (sym e) (met_at (row vertices x).place f (q.stands x l))
-        | inr e ↦ stands_seen vs seen seen_too u (other_seen u e) (row vertices u).place (q.stands u a)
-      ];
-      once = q.once;
-      known = q.known;
-    }
 
     module _ (f : is_unseen (row vertices x).place ≡ true) where
       is : (row vertices x).place ≡ Unseen

@@ -1,12 +1,12 @@
 -- The search for the vertex that a new part of the order begins with.
-use Rattle.std.proofs.Common.{◌≡◌, ℕ, ◌+◌, ◌-◌, ◌<◌, ◌≤◌, Bool, true, false, ◌&&◌, eqb, List, length, take, drop, is_some, Some, None, Option, sym, refl, ap, ◌∙◌, subst, inl, inr, arith}
+use Rattle.std.proofs.Common.{◌≡◌, ℕ, ◌+◌, ◌-◌, ◌<◌, ◌≤◌, Bool, true, false, ◌&&◌, eqb, List, length, take, drop, Some, None, Option, sym, ap, ◌∙◌, subst, inl, inr, arith}
 use Rattle.std.specs.List.{AllWithin, HoldsAt}
 use Rattle.std.proofs.lemmas.Bool.{cases_lt, cases_eq, both_ways, and_parts, and_from, eqb-true, eq-eqb}
 use Rattle.std.proofs.lemmas.List.{get_or-take, get_or-drop, length-drop, length-take-le}
 use Rattle.runs.specs.Order.{Best}
 use Rattle.graph.specs.declared.rows.Vertex.{Vertex}
 use Rattle.graph.specs.Chains.{bare, row}
-use Rattle.ordering.specs.Queue.{is_unseen, Greatest, Led, Bounded, Resumed, Replaced, degree_at, unseen_at}
+use Rattle.ordering.specs.Queue.{is_unseen, Greatest, Led, Bounded, Replaced, degree_at, unseen_at}
 
 abbrev pub most_of : (ℕ → ℕ) → Option ℕ → ℕ
 most_of weight None = 0
@@ -81,14 +81,6 @@ module _ (m : ℕ) (vertices : List Vertex) where
       let no = f.2 (u - b) bare (omega arith) (omega arith) in
       both_ways (hit most (row vertices u)) (ap (λ i. hit most (row vertices i)) (sym z) ∙ sym (ap (hit most) (get_or-drop b vertices (u - b) bare)) ∙ no)
       (and_from (unseen_at vertices u) (eqb (degree_at vertices u) most) o (eq-eqb (degree_at vertices u) most w)))
-
-  pub greatest_bounds : (o : Option ℕ) → Greatest (degree_at vertices) (unseen_at vertices) m o → Bounded m vertices o
-  greatest_bounds None h = tt
-  greatest_bounds (Some b) h = record { below = h.below; above_zero = h.above_zero; greatest_weight = h.greatest_weight; lowest = h.lowest }
-
-  pub resumed_greatest : (o : Option ℕ) → Resumed m vertices o → is_some o ≡ true → Greatest (degree_at vertices) (unseen_at vertices) m o
-  resumed_greatest None h s = absurd (both_ways false refl s)
-  resumed_greatest (Some v) h s = h
 
   pub bounded_on : (vertices' : List Vertex) → Replaced m vertices vertices' → (o : Option ℕ) → Bounded m vertices o → Bounded m vertices' o
   bounded_on vertices' p None h = tt

@@ -21,9 +21,6 @@ loop-k-init c =
           (arranged_none es c.args.r c.reset.new.vertices (none_placed (2 * c.args.r) c.args.vertices.now c.reset.new.vertices c.reset.ensures.done c.reset.ensures.rest)),
     )
 
-pub choose-requires : goal.choose-requires
-choose-requires c = let l = c.loop-k in (omega arith, c.requires.1, l.invariant.1, l.invariant.4)
-
 pub loop-k-preserved : goal.loop-k-preserved
 loop-k-preserved c =
     let l = c.loop-k in
@@ -51,8 +48,8 @@ loop-k-preserved c =
           (put_queued es r edges l.ordered l.k v l.vertices after _ _ lk lv ch.low w next refl)),
     )
 
-pub returns : goal.returns
-returns c =
+pub returns-clause-exact : goal.returns-clause-exact
+returns-clause-exact c =
     let l = c.loop-k in
     let r = c.args.r in
     let edges = c.args.edges.now in
@@ -60,32 +57,28 @@ returns c =
     let b = begun_on _ _ _ _ b0 l.invariant.2 in
     let lk : l.k ≤ length l.ordered = omega arith in
     let full : l.k ≡ 2 * r = omega arith in
-    record {
-      low = omega arith;
-      begun = b;
-      rest = subst (λ k. drop k l.ordered ≡ drop k c.args.ordered.now) full l.invariant.3;
-      exact = λ es en g.
-          let g0 = graph_kept es r edges c.args.vertices.now c.reset.new.vertices b0.first b0.degree g in
-          let h = graph_kept es r edges c.args.vertices.now l.vertices b.first b.degree g in
-          let w = l.invariant.5 es en g0 in
-          subst (OrderedGraph es r edges l.vertices l.ordered) full (in_order es r edges l.ordered l.k l.vertices _ h lk w (all_taken es r edges l.ordered l.k l.vertices _ h lk w (omega arith) (omega arith)));
-    }
+    λ es en g.
+    let g0 = graph_kept es r edges c.args.vertices.now c.reset.new.vertices b0.first b0.degree g in
+    let h = graph_kept es r edges c.args.vertices.now l.vertices b.first b.degree g in
+    let w = l.invariant.5 es en g0 in
+    subst (OrderedGraph es r edges l.vertices l.ordered) full (in_order es r edges l.ordered l.k l.vertices _ h lk w (all_taken es r edges l.ordered l.k l.vertices _ h lk w (omega arith) (omega arith)))
 
-pub returns-in_default : goal.returns-in_default
-returns-in_default c =
+pub returns-clause-begun : goal.returns-clause-begun
+returns-clause-begun c = begun_on _ _ _ _ (begun_reset (2 * c.args.r) c.args.vertices.now c.reset.new.vertices c.reset.ensures.done c.reset.ensures.rest) c.loop-k.invariant.2
+
+pub returns-in_default-clause-exact : goal.returns-in_default-clause-exact
+returns-in_default-clause-exact c =
     let l = c.loop-k in
     let r = c.args.r in
     let edges = c.args.edges.now in
     let b0 = begun_reset (2 * r) c.args.vertices.now c.reset.new.vertices c.reset.ensures.done c.reset.ensures.rest in
     let b = begun_on _ _ _ _ b0 l.invariant.2 in
     let lk : l.k ≤ length l.ordered = omega arith in
-    record {
-      low = omega arith;
-      begun = b;
-      rest = l.invariant.3;
-      exact = λ es en g.
-          let g0 = graph_kept es r edges c.args.vertices.now c.reset.new.vertices b0.first b0.degree g in
-          let h = graph_kept es r edges c.args.vertices.now l.vertices b.first b.degree g in
-          let w = l.invariant.5 es en g0 in
-          in_order es r edges l.ordered l.k l.vertices _ h lk w (c.in_default.ensures.chosen es (take l.k l.ordered) (graph_weighs es r edges l.vertices h) w.queued);
-    }
+    λ es en g.
+    let g0 = graph_kept es r edges c.args.vertices.now c.reset.new.vertices b0.first b0.degree g in
+    let h = graph_kept es r edges c.args.vertices.now l.vertices b.first b.degree g in
+    let w = l.invariant.5 es en g0 in
+    in_order es r edges l.ordered l.k l.vertices _ h lk w (c.in_default.ensures.chosen es (take l.k l.ordered) (graph_weighs es r edges l.vertices h) w.queued)
+
+pub returns-in_default-clause-begun : goal.returns-in_default-clause-begun
+returns-in_default-clause-begun c = begun_on _ _ _ _ (begun_reset (2 * c.args.r) c.args.vertices.now c.reset.new.vertices c.reset.ensures.done c.reset.ensures.rest) c.loop-k.invariant.2
