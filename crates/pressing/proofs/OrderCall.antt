@@ -1,5 +1,5 @@
 -- Ordering, at each of its exits.
-use Rattle.std.proofs.Common.{◌≡◌, ℕ, zero, suc, ◌+◌, ◌*◌, ◌<◌, ◌≤◌, true, false, List, [], ◌∷◌, map, length, get_or, take, drop, replicate, Some, None, Ok, Err, Option, Result, sym, refl, ap, ◌∙◌, subst, arith}
+use Rattle.std.proofs.Common.{◌≡◌, ℕ, zero, suc, ◌+◌, ◌*◌, ◌<◌, ◌≤◌, true, List, [], ◌∷◌, map, length, get_or, take, drop, replicate, Some, None, Ok, Err, Option, Result, sym, refl, ap, ◌∙◌, subst, arith}
 use Rattle.std.specs.List.{range_with_len}
 use Rattle.std.proofs.lemmas.List.{take-append-le, take_all, length-replicate, get_or-replicate}
 use Rattle.refusals.specs.Checks.{unless, or, first}
@@ -25,7 +25,7 @@ use Rattle.pressing.specs.Stages.{belongs, begun}
 use Rattle.pressing.specs.Left.{Kept, Held, Left}
 use Rattle.pressing.specs.Work.{OrderWorked}
 use Rattle.pressing.specs.Calls.{order_gate, OrderDone}
-use Rattle.pressing.proofs.Steps.{stops, goes, or_none, passed_by, barred_by, by_gate, by_acceptance}
+use Rattle.pressing.proofs.Steps.{goes, or_none, passed_by, barred_by, by_gate, by_acceptance}
 
 -- before the first fit every slot is empty
 

@@ -1,40 +1,42 @@
--- What the tests of lengths and bytes say of `sameBytes`, and those of rows of `has`.
-use Rattle.std.proofs.Common.{◌≡◌, ℕ, ◌+◌, ◌<◌, ◌≤◌, Bool, true, false, ◌||◌, List, ◌∷◌, map, length, get_or, drop, sym, ap, ◌∙◌, inl, inr, add-one, arith}
+-- What a comparison byte by byte says of `bytes_eq`, and one row after the other of `has`.
+use Rattle.std.proofs.Common.{◌≡◌, ℕ, zero, suc, ◌+◌, ◌<◌, Bool, true, ◌||◌, eqb, List, [], ◌∷◌, map, length, get_or, sym, refl, ap, ◌∙◌, subst, inl, inr, add-one, arith}
 use Rattle.std.specs.Str.{bytes_eq}
+use Rattle.std.specs.List.{list_all, list_any, range_with_len}
 use Rattle.std.proofs.lemmas.Slice.Eq.{bytes_eq-Decides}
-use Rattle.std.proofs.lemmas.List.{ext_get_or, at_drop_more, at_drop_all}
-use Rattle.std.proofs.lemmas.Bool.{cases_Bool}
-use Rattle.graph.specs.declared.rows.Row.{Row}
+use Rattle.std.proofs.lemmas.List.{ext_get_or}
+use Rattle.std.proofs.lemmas.List.Folds.{list_all_at}
+use Rattle.std.proofs.lemmas.List.FromFn.{length-range_with_len, get_or-range_with_len}
+use Rattle.std.proofs.lemmas.Bool.{cases_Bool, both_ways, and_from, eqb-true, eq-eqb}
 use Rattle.runs.specs.Lists.{has}
+use Rattle.pressing.proofs.Room.{same_test}
+
+itself : (f : ℕ → ℕ) (a n : ℕ) → list_all (λ i. eqb (f i) (f i)) (range_with_len a n) ≡ true
+itself f a zero = refl
+itself f a (suc n) = and_from (eqb (f a) (f a)) (list_all (λ i. eqb (f i) (f i)) (range_with_len (a + 1) n)) (eq-eqb (f a) (f a) refl) (itself f (a + 1) n)
+
+-- each of the numbers below n passes
+below : (test : ℕ → Bool) (n i : ℕ) → list_all test (range_with_len 0 n) ≡ true → i < n → test i ≡ true
+below test n i t b = elim (cases_Bool (test i)) [
+  | inl s ↦ s
+  | inr f ↦
+      let there : get_or (range_with_len 0 n) i 0 ≡ i = omega (arith, get_or-range_with_len 0 n i 0 b) in
+      absurd (both_ways (list_all test (range_with_len 0 n)) (list_all_at test (range_with_len 0 n) i 0 (omega (arith, length-range_with_len 0 n)) (ap test there ∙ f)) t)
+]
 
 module _ (xs ys : List ℕ) where
-  other : (xs ≡ ys → ⊥) → false ≡ bytes_eq xs ys
-  other ne = elim (cases_Bool (bytes_eq xs ys)) [ inl t ↦ absurd (ne ((bytes_eq-Decides xs ys).0 t)) | inr f ↦ sym f ]
+  -- whether they have the same byte at a place
+  abbrev pub same_at : ℕ → Bool
+  same_at i = eqb (get_or (0 ∷ xs) (i + 1) 0) (get_or (0 ∷ ys) (i + 1) 0)
 
-  pub by_length : {m n : ℕ} → m ≡ length xs → n ≡ length ys → (m ≡ n → ⊥) → false ≡ bytes_eq xs ys
-  by_length p q ne = other (λ e. ne (p ∙ ap length e ∙ sym q))
+  pub compared : {n : ℕ} → n ≡ length xs → n ≡ length ys → list_all same_at (range_with_len 0 n) ≡ bytes_eq xs ys
+  compared {n} p q = same_test (list_all same_at (range_with_len 0 n)) (bytes_eq xs ys)
+      (λ t. (bytes_eq-Decides xs ys).1 (ext_get_or 0 xs ys (sym p ∙ q)
+      (λ i b. let s = eqb-true (get_or (0 ∷ xs) (i + 1) 0) (get_or (0 ∷ ys) (i + 1) 0) (below same_at n i t (omega arith)) in rw add-one at s)))
+      (λ t.
+      subst (λ (zs : List ℕ). list_all (λ i. eqb (get_or (0 ∷ xs) (i + 1) 0) (get_or (0 ∷ zs) (i + 1) 0)) (range_with_len 0 n) ≡ true) ((bytes_eq-Decides xs ys).0 t)
+      (itself (λ i. get_or (0 ∷ xs) (i + 1) 0) 0 n))
 
-  pub by_byte : (k : ℕ) {a b : ℕ} → a ≡ get_or (0 ∷ xs) k 0 → b ≡ get_or (0 ∷ ys) k 0 → (a ≡ b → ⊥) → false ≡ bytes_eq xs ys
-  by_byte k p q ne = other (λ e. ne (p ∙ ap (λ s. get_or (0 ∷ s) k 0) e ∙ sym q))
-
-  pub by_all : {m n k : ℕ} → m ≡ length xs → n ≡ length ys → m ≡ n → m ≤ k → ((j : ℕ) → j < k → get_or (0 ∷ xs) (j + 1) 0 ≡ get_or (0 ∷ ys) (j + 1) 0) → true ≡ bytes_eq xs ys
-  by_all {m} {n} {k} p q e l h =
-      let within : (j : ℕ) → j < length xs → j < k = λ j i. omega arith in
-      sym ((bytes_eq-Decides xs ys).1 (ext_get_or 0 xs ys (sym p ∙ e ∙ q) (λ j i. rw add-one at (h j (within j i)))))
-
--- rows one after the other, i of them looked at
-module _ {N : Type 0} (spell : N → List ℕ) (s : List ℕ) (rows : List (Row N)) (i : ℕ) where
-  abbrev pub among_rows : List (Row N) → Bool
-  among_rows xs = has bytes_eq s (map (λ x. spell x.name) xs)
-
-  next : (x : Row N) → i < length rows → x ≡ get_or rows i x → among_rows (drop i rows) ≡ (bytes_eq s (spell x.name) || among_rows (drop (i + 1) rows))
-  next x l e = at_drop_more among_rows rows i x l ∙ ap (λ (y : Row N). bytes_eq s (spell y.name) || among_rows (drop (i + 1) rows)) (sym e)
-
-  pub found : {x : Row N} → i < length rows → x ≡ get_or rows i x → among_rows (drop i rows) ≡ among_rows rows → true ≡ bytes_eq s (spell x.name) → true ≡ among_rows rows
-  found {x} l e inv t = ap (λ b. b || among_rows (drop (i + 1) rows)) t ∙ sym (next x l e) ∙ inv
-
-  pub passed : {x : Row N} → i < length rows → x ≡ get_or rows i x → among_rows (drop i rows) ≡ among_rows rows → false ≡ bytes_eq s (spell x.name) → among_rows (drop (i + 1) rows) ≡ among_rows rows
-  passed {x} l e inv t = ap (λ b. b || among_rows (drop (i + 1) rows)) t ∙ sym (next x l e) ∙ inv
-
-  pub none : length rows ≤ i → among_rows (drop i rows) ≡ among_rows rows → false ≡ among_rows rows
-  none l inv = sym (at_drop_all among_rows rows i l) ∙ inv
+-- looked for among what is read of some items
+pub any_has : {X : Type 0} (read : X → List ℕ) (s : List ℕ) (xs : List X) → list_any (λ x. bytes_eq s (read x)) xs ≡ has bytes_eq s (map read xs)
+any_has read s [] = refl
+any_has read s (x ∷ xs) = ap (λ b. bytes_eq s (read x) || b) (any_has read s xs)

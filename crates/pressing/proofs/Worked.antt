@@ -1,6 +1,6 @@
 -- The work of map and order over lists that are long enough.
-use Rattle.std.proofs.Common.{◌≡◌, ℕ, ◌+◌, ◌<◌, ◌≤◌, Bool, not, leb, List, [], ◌∷◌, ◌++◌, length, get_or, take, drop, set, replicate, Ok, Err, Result, sym, ap, ◌∙◌, subst, arith}
-use Rattle.std.proofs.lemmas.List.{set_at, drop_more, replicate_more, length-replicate, append_assoc, take-append-le, take_all, length-map, length-take-le}
+use Rattle.std.proofs.Common.{◌≡◌, ℕ, ◌≤◌, Bool, not, leb, List, [], ◌∷◌, ◌++◌, length, take, drop, Ok, Err, Result, sym, ap, ◌∙◌, subst, arith}
+use Rattle.std.proofs.lemmas.List.{take-append-le, take_all, length-map, length-take-le}
 use Rattle.std.proofs.lemmas.Bool.{cond-true, le-leb}
 use Rattle.refusals.specs.Checks.{unless, first, with_value, Told}
 use Rattle.hashing.specs.declared.fault.HashFault.{HashFault}
@@ -19,15 +19,7 @@ use Rattle.runs.specs.declared.fault.PressFault.{PressFault}
 use Rattle.runs.specs.declared.fault.PressFault.TheVariants.{Clash}
 use Rattle.pressing.specs.Work.{MapWorked}
 
--- 1. slots emptied one after the other
-pub emptied_more : {X : Type 0} (xs old : List X) (i : ℕ) (y : X) → i < length old → xs ≡ replicate i y ++ drop i old → set xs i y ≡ replicate (i + 1) y ++ drop (i + 1) old
-emptied_more {X} xs old i y h e =
-    ap (λ (l : List X). set l i y) (e ∙ ap (λ (l : List X). replicate i y ++ l) (drop_more old i y h)) ∙
-    set_at (replicate i y) (get_or old i y) (drop (i + 1) old) y i (length-replicate i y) ∙
-    sym (append_assoc (replicate i y) (y ∷ []) (drop (i + 1) old)) ∙
-    ap (λ (l : List X). l ++ drop (i + 1) old) (replicate_more i y)
-
--- 2. tables
+-- 1. tables
 
 filled_is : (seed : ℕ) (tables : List ℕ) → 12288 ≤ length tables → filled seed tables ≡ tables_of seed ++ drop 12288 tables
 filled_is seed tables h = cond-true (leb 12288 (length tables)) _ _ (le-leb 12288 (length tables) h)
@@ -40,7 +32,7 @@ never_short tables o f h t e =
 drawn_part : (seed : ℕ) (rest : List ℕ) → take 12288 (tables_of seed ++ rest) ≡ tables_of seed
 drawn_part seed rest = take-append-le 12288 (tables_of seed) rest (omega (arith, length_tables seed)) ∙ take_all 12288 (tables_of seed) (omega (arith, length_tables seed))
 
--- 3. map
+-- 2. map
 
 module _ {N : Type 0} (spelling : N → List ℕ) (n r seed : ℕ) (rows : List (Row N)) (tables tables' : List ℕ) (edges edges' : List Edge) (vertices vertices' : List Vertex)
     (few : n ≤ 1024) (there : 1024 ≤ length rows) (long : 12288 ≤ length tables) (wrote : tables' ≡ filled seed tables) where

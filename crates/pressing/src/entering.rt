@@ -11,33 +11,13 @@ fn is_same<N: Kind>(a: &N, b: &N) -> bool
     ensures { result ≡ bytes_eq (N.spelling a.now) (N.spelling b.now) }
 {
     let len = a.len();
-    if len != b.len() {
-        return false;
-    }
-    for i in 0..len {
-        if a.byte(i + 1) != b.byte(i + 1) {
-            return false;
-        }
-    }
-    true
+    len == b.len() && (0..len).all(|i| a.byte(i + 1) == b.byte(i + 1))
 }
 
-// Whether one of the rows has a name with the spelling of this one.
-fn is_among<N: Kind>(rows: &[Row<N>], name: &N) -> bool
-    ensures { result ≡ has bytes_eq (N.spelling name.now) (map (λ x. N.spelling x.name) rows.now) }
-{
-    for row in rows {
-        if is_same(name, &row.name) {
-            return true;
-        }
-    }
-    false
-}
-
-// Whether one of the first `count` rows has.
+// Whether one of the first `count` rows has a name with the spelling of this one.
 pub(crate) fn is_entered<N: Kind>(rows: &[Row<N>], count: usize, name: &N) -> bool
     requires { count ≤ length rows.now }
     ensures { result ≡ has bytes_eq (N.spelling name.now) (map (λ x. N.spelling x.name) (take count rows.now)) }
 {
-    is_among(&rows[0..count], name)
+    rows[0..count].iter().any(|row| is_same(name, &row.name))
 }

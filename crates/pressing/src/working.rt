@@ -27,34 +27,20 @@ pub(crate) fn map_lists<N: Kind>(
 {
     fill(tables, seed)?;
     let count = usize::from(sizes.n());
-    let drawn = &*tables;
-    let Some(_) = map_names(
+    map_names(
         rows,
         count,
-        &drawn[0..TABLE_NUMBERS],
+        &tables[0..TABLE_NUMBERS],
         sizes,
         edges,
         vertices,
-    ) else {
-        return Err(PressFault::ShortList);
-    };
-    let Some(clashes) = clash(edges, count) else {
-        return Err(PressFault::ShortList);
-    };
+    )
+    .ok_or(PressFault::ShortList)?;
+    let clashes = clash(edges, count).ok_or(PressFault::ShortList)?;
     if clashes {
         return Err(PressFault::Clash);
     }
     Ok(())
-}
-
-// Empties the first n slots.
-fn empty(slots: &mut [Option<u16>], n: usize)
-    requires { n ≤ length slots.old }
-    ensures { slots.new ≡ replicate n None ++ drop n slots.old }
-{
-    for s in 0..n {
-        slots[s] = None;
-    }
 }
 
 // Writes the order of the vertices, sets their values to 0, empties the first n slots, and answers
@@ -71,9 +57,6 @@ pub(crate) fn order_lists(
     requires { (n ≤ 1024) × (r ≤ 1024) × (1024 ≤ length edges.now) × (2048 ≤ length vertices.old) × (2048 ≤ length heap.old) × (2048 ≤ length ordered.old) × (1024 ≤ length slots.old) }
     ensures { OrderWorked n r edges.now vertices.old vertices.new heap.old heap.new ordered.old ordered.new slots.old slots.new result }
 {
-    empty(slots, n);
-    match order(edges, n, r, vertices, heap, ordered) {
-        Some(k) => k as u16,
-        None => 0,
-    }
+    slots[0..n].fill(None);
+    order(edges, n, r, vertices, heap, ordered).unwrap_or(0) as u16
 }

@@ -1,17 +1,13 @@
-use Rattle.std.proofs.Common.{◌+◌, below_more}
-use Rattle.pressing.proofs.Spelled.{by_length, by_byte, by_all}
+use Rattle.std.proofs.Common.{◌∙◌, arith, rules, tests}
+use Rattle.std.proofs.lemmas.Iterator.{YieldsList-from_range}
+use Rattle.std.proofs.lemmas.Iterator.Search.{all_from_yields_List}
+use Rattle.pressing.proofs.Spelled.{same_at, compared}
 use Rattle.pressing.proofs.entering.is_same.Goals as goal
 
 pub returns-then-len : goal.returns-then-len
-returns-then-len g c = by_length _ _ c.len-len.ensures c.len.ensures c.if-len.true
-
-pub returns-then-byte : goal.returns-then-byte
-returns-then-byte g c =
-    let sp = g.N.Kind.spelling in
-    by_byte (sp c.args.a.now) (sp c.args.b.now) (c.loop-i.i + 1) c.byte.ensures c.byte-in-loop-i.ensures c.if-byte.true
-
-pub loop-i-preserved : goal.loop-i-preserved
-loop-i-preserved g c = below_more _ _ c.loop-i.invariant (cc)
-
-pub returns : goal.returns
-returns g c = by_all _ _ c.len-len.ensures c.len.ensures c.if-len.false c.loop-i-test.false c.loop-i.invariant
+returns-then-len g c =
+    let xs = g.N.Kind.spelling c.args.a.now in
+    let ys = g.N.Kind.spelling c.args.b.now in
+    let n = c.len-len.result in
+    all_from_yields_List (same_at xs ys) _ _ _ c.all.ensures.ran (YieldsList-from_range 0 n n (cc) (omega arith)) (λ x b q k. search (rules, tests))
+    ∙ compared xs ys c.len-len.ensures (c.if-len.true ∙ c.len.ensures)
