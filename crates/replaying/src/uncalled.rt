@@ -45,8 +45,8 @@ fn refused<W: fmt::Write>(number: u8, f: &mut fmt::Formatter<W>) -> fmt::Result 
 impl fmt::Display for Uncalled {
     fn fmt<W: fmt::Write>(&self, f: &mut fmt::Formatter<W>) -> fmt::Result {
         match self {
-            Uncalled::Name(fault) => refused(fault.number(), f),
-            Uncalled::Way(fault) => refused(fault.number(), f),
+            Uncalled::Name(refusal) => refused(refusal.number(), f),
+            Uncalled::Way(refusal) => refused(refusal.number(), f),
             Uncalled::Unread => write!(f, "unread"),
         }
     }
