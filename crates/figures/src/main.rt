@@ -12,11 +12,9 @@ use hashing::seed::Seed;
 use std::io;
 
 /// Every worked figure is what the definitions compute.
-fn figures_hold() -> u8
+fn figures_hold()
     ensures { FiguresHold }
-{
-    0
-}
+{}
 
 /// The state after so many steps.
 fn drawn(seed: Seed, steps: u32) -> Seed
@@ -30,7 +28,7 @@ fn drawn(seed: Seed, steps: u32) -> Seed
 }
 
 fn main(rt: HostRuntime) -> io::Result<()> {
-    let _ = figures_hold();
+    figures_hold();
     let Ok(seed) = Seed::new(1) else {
         return println!(rt; "seed 1 is refused");
     };

@@ -53,16 +53,9 @@ mod tests {
         }
         assert!(rt; !DayCell::judge(&[0, 12, 1]));
         assert!(rt; !DayCell::judge(&[0, 12, 1, 110, 0]));
-        match DayCell::spelled(&[0, 12, 1, 110]) {
-            Some(cell) => {
-                assert_eq!(rt; cell.pan_and_day(), (12, 366));
-                Ok(())
-            },
-            None => {
-                assert!(rt; false);
-                Ok(())
-            },
-        }
+        let cell = DayCell::spelled(&[0, 12, 1, 110]);
+        assert_eq!(rt; cell.map(|cell| cell.pan_and_day()), Some((12, 366)));
+        Ok(())
     }
 
     #[test]
