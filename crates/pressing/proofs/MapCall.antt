@@ -37,11 +37,11 @@ use Rattle.pressing.proofs.Steps.{stops, goes, first_behind, passed_by, barred_b
 use Rattle.pressing.proofs.EnterCall.{held_open}
 
 clash_apart : (f : PressFault) → f ≡ NoName ⊎ (f ≡ VertexCount ⊎ (f ≡ Seed ⊎ (f ≡ WrongStage ⊎ (f ≡ ShortList)))) → f ≡ Clash → ⊥
-clash_apart f (inl e) h = let z : ◌≡◌ {A = ℕ} 0 1 = cc in omega arith
-clash_apart f (inr (inl e)) h = let z : ◌≡◌ {A = ℕ} 0 1 = cc in omega arith
-clash_apart f (inr (inr (inl e))) h = let z : ◌≡◌ {A = ℕ} 0 1 = cc in omega arith
-clash_apart f (inr (inr (inr (inl e)))) h = let z : ◌≡◌ {A = ℕ} 0 1 = cc in omega arith
-clash_apart f (inr (inr (inr (inr e)))) h = let z : ◌≡◌ {A = ℕ} 0 1 = cc in omega arith
+clash_apart f (inl e) h = cc
+clash_apart f (inr (inl e)) h = cc
+clash_apart f (inr (inr (inl e))) h = cc
+clash_apart f (inr (inr (inr (inl e)))) h = cc
+clash_apart f (inr (inr (inr (inr e)))) h = cc
 
 -- the numbers by other names
 pub retold : {N : Type 0} {spelling : N → List ℕ} {n n' r r' s s' : ℕ} {rows : List (Row N)} {tables tables' : List ℕ} {edges edges' : List Edge} {vertices vertices' : List Vertex} {o : Result (Unit {0}) PressFault} →
@@ -110,27 +110,27 @@ module _ {N : Type 0} (spelling : N → List ℕ) (r seed : ℕ) (p : Pressing N
     -- no name, or r out of its range
     by_sizes : (c d : Bool) (f : HashFault) → first (unless c hash.NoName ∷ unless d hash.VertexCount ∷ []) ≡ Some f →
         (first (unless c NoName ∷ unless d VertexCount ∷ of_seed) ≡ Some (of_hashing f)) × (of_hashing f ≡ Clash → ⊥)
-    by_sizes true true f q = absurd (let z : ◌≡◌ {A = ℕ} 0 1 = cc in omega arith)
+    by_sizes true true f q = absurd cc
     by_sizes true false f q =
         let s : f ≡ hash.VertexCount = cc in (ap (λ g. Some (of_hashing g)) (sym s), clash_apart (of_hashing f) (inr (inl (ap of_hashing s))))
     by_sizes false d f q =
         let s : f ≡ hash.NoName = cc in (ap (λ g. Some (of_hashing g)) (sym s), clash_apart (of_hashing f) (inl (ap of_hashing s)))
 
     by_seed : (c : Bool) (f : HashFault) → unless c hash.SeedRange ≡ Some f → (first (unless c Seed ∷ []) ≡ Some (of_hashing f)) × (of_hashing f ≡ Clash → ⊥)
-    by_seed true f q = absurd (let z : ◌≡◌ {A = ℕ} 0 1 = cc in omega arith)
+    by_seed true f q = absurd cc
     by_seed false f q =
         let s : f ≡ hash.SeedRange = cc in (ap (λ g. Some (of_hashing g)) (sym s), clash_apart (of_hashing f) (inr (inr (inl (ap of_hashing s)))))
 
     in_seed : (c : Bool) → unless c hash.SeedRange ≡ None → first (unless c Seed ∷ []) ≡ None
     in_seed true q = refl
-    in_seed false q = absurd (let z : ◌≡◌ {A = ℕ} 0 1 = cc in omega arith)
+    in_seed false q = absurd cc
 
     in_sizes : (b c d : Bool) → first (unless b hash.TooManyNames ∷ unless c hash.NoName ∷ unless d hash.VertexCount ∷ []) ≡ None →
         first (unless c NoName ∷ unless d VertexCount ∷ of_seed) ≡ first of_seed
     in_sizes true true true q = refl
-    in_sizes true true false q = absurd (let z : ◌≡◌ {A = ℕ} 0 1 = cc in omega arith)
-    in_sizes true false d q = absurd (let z : ◌≡◌ {A = ℕ} 0 1 = cc in omega arith)
-    in_sizes false c d q = absurd (let z : ◌≡◌ {A = ℕ} 0 1 = cc in omega arith)
+    in_sizes true true false q = absurd cc
+    in_sizes true false d q = absurd cc
+    in_sizes false c d q = absurd cc
 
     sized : sizes_fault p.count r ≡ None → first (checked p.stage p.count) ≡ first of_seed
     sized q = long ∙ in_sizes (leb p.count 1024) (leb 1 p.count) (in_range 1 1024 r) q
@@ -175,10 +175,10 @@ module _ {N : Type 0} (spelling : N → List ℕ) (r seed : ℕ) (p : Pressing N
 
         by_answer : (b : Bool) (f : PressFault) → ◌≡◌ {A = Result (Unit {0}) PressFault} (Err f) (with_value (unless (not b) Clash) tt) → (b ≡ true) × (f ≡ Clash)
         by_answer true f e = (refl, cc)
-        by_answer false f e = absurd (let z : ◌≡◌ {A = ℕ} 0 1 = cc in omega arith)
+        by_answer false f e = absurd cc
 
         by_none : (b : Bool) → ◌≡◌ {A = Result (Unit {0}) PressFault} (Ok tt) (with_value (unless (not b) Clash) tt) → b ≡ false
-        by_none true e = absurd (let z : ◌≡◌ {A = ℕ} 0 1 = cc in omega arith)
+        by_none true e = absurd cc
         by_none false e = refl
 
         same_clash : (m : Run N) → Left spelling m p l → clashes es ≡ clashing m
@@ -231,5 +231,5 @@ module _ {N : Type 0} (spelling : N → List ℕ) (r seed : ℕ) (p : Pressing N
                   λ _. held m k,
                 ));
             written = λ _. wrote;
-            kept = λ f e n. absurd (let z : ◌≡◌ {A = ℕ} 0 1 = cc in omega arith);
+            kept = λ f e n. absurd cc;
           }

@@ -44,7 +44,7 @@ all_ample l h =
 -- a refusal by `ok_or` is that of a none
 pub ok_or_none : {T E : Type 0} (o : Option T) (e f : E) → Err f ≡ ok_or o e → (o ≡ None) × (f ≡ e)
 ok_or_none None e f h = (refl, cc)
-ok_or_none (Some x) e f h = absurd (let z : ◌≡◌ {A = ℕ} 0 1 = cc in omega arith)
+ok_or_none (Some x) e f h = absurd cc
 
 -- two tests that are met together
 pub same_test : (a b : Bool) → (a ≡ true → b ≡ true) → (b ≡ true → a ≡ true) → a ≡ b

@@ -36,7 +36,7 @@ use Rattle.pressing.proofs.Steps.{stops, goes, or_none, passed_by, barred_by, ru
 use Rattle.pressing.proofs.EnterCall.{Moved}
 
 err_ok : {T E X : Type 0} {x : T} {f : E} → Err f ≡ Ok x → X
-err_ok e = absurd (let z : ◌≡◌ {A = ℕ} 0 1 = cc in omega arith)
+err_ok e = absurd cc
 
 -- what is read past the end of entries
 abbrev no_entry : Entry

@@ -41,7 +41,7 @@ some_same : {F : Type 0} {f g : F} → Some f ≡ Some g → f ≡ g
 some_same e = cc
 
 none_some : {F X : Type 0} {f : F} → None ≡ Some f → X
-none_some e = absurd (let z : ◌≡◌ {A = ℕ} 0 1 = cc in omega arith)
+none_some e = absurd cc
 
 -- 2. stages
 
@@ -51,13 +51,13 @@ pub record Passed (e : Event) (s t : Stage) : Type 0 where
 
 by_belongs : (b : Bool) (t s : Stage) → with_value (unless b WrongStage) t ≡ Ok s → (b ≡ true) × (s ≡ t)
 by_belongs true t s h = (refl, cc)
-by_belongs false t s h = absurd (let z : ◌≡◌ {A = ℕ} 0 1 = cc in omega arith)
+by_belongs false t s h = absurd cc
 
 pub stage_passed : (e : Event) (s t : Stage) → next_stage e s ≡ Ok t → Passed e s t
 stage_passed e s t h = let q = by_belongs (belongs e s) (leads e) t h in record { belonged = q.0; led = q.1 }
 
 by_strange : (b : Bool) (t : Stage) (f : PressFault) → with_value (unless b WrongStage) t ≡ Err f → (b ≡ false) × (f ≡ WrongStage)
-by_strange true t f h = absurd (let z : ◌≡◌ {A = ℕ} 0 1 = cc in omega arith)
+by_strange true t f h = absurd cc
 by_strange false t f h = (refl, cc)
 
 pub stage_refused : (e : Event) (s : Stage) (f : PressFault) → next_stage e s ≡ Err f → (belongs e s ≡ false) × (f ≡ WrongStage)
@@ -71,8 +71,8 @@ pub record Begun (e : Event) (s t : Stage) (l : Lent) : Type 0 where
 
 by_both : (b a : Bool) (t s : Stage) → with_value (first (unless b WrongStage ∷ unless a ShortList ∷ [])) t ≡ Ok s → (b ≡ true) × (a ≡ true) × (s ≡ t)
 by_both true true t s h = (refl, refl, cc)
-by_both true false t s h = absurd (let z : ◌≡◌ {A = ℕ} 0 1 = cc in omega arith)
-by_both false a t s h = absurd (let z : ◌≡◌ {A = ℕ} 0 1 = cc in omega arith)
+by_both true false t s h = absurd cc
+by_both false a t s h = absurd cc
 
 pub passed_by : (e : Event) (s : Stage) (l : Lent) (t : Stage) → begun e s l ≡ Ok t → Begun e s t l
 passed_by e s l t h = let q = by_both (belongs e s) (ample l) (leads e) t h in record { belonged = q.0; long = q.1; led = q.2 }
@@ -80,9 +80,9 @@ passed_by e s l t h = let q = by_both (belongs e s) (ample l) (leads e) t h in r
 -- what these two refuse is refused by all checks that begin with them, and not for a clash
 by_one : (b a : Bool) (os : List (Option PressFault)) (t : Stage) (f : PressFault) → with_value (first (unless b WrongStage ∷ unless a ShortList ∷ [])) t ≡ Err f →
     (first (unless b WrongStage ∷ unless a ShortList ∷ os) ≡ Some f) × (f ≡ Clash → ⊥)
-by_one true true os t f h = absurd (let z : ◌≡◌ {A = ℕ} 0 1 = cc in omega arith)
-by_one true false os t f h = let q : ShortList ≡ f = cc in (ap (λ g. Some g) q, λ c. let z : ◌≡◌ {A = ℕ} 0 1 = cc in omega arith)
-by_one false a os t f h = let q : WrongStage ≡ f = cc in (ap (λ g. Some g) q, λ c. let z : ◌≡◌ {A = ℕ} 0 1 = cc in omega arith)
+by_one true true os t f h = absurd cc
+by_one true false os t f h = let q : ShortList ≡ f = cc in (ap (λ g. Some g) q, λ c. cc)
+by_one false a os t f h = let q : WrongStage ≡ f = cc in (ap (λ g. Some g) q, λ c. cc)
 
 pub barred_by : (e : Event) (s : Stage) (l : Lent) (os : List (Option PressFault)) (f : PressFault) → begun e s l ≡ Err f →
     (first (unless (belongs e s) WrongStage ∷ unless (ample l) ShortList ∷ os) ≡ Some f) × (f ≡ Clash → ⊥)
@@ -162,7 +162,7 @@ module _ {N : Type 0} (spelling : N → List ℕ) where
               held = λ a. subst (λ n. Held spelling n l') (sym b) ((t m k).3 (sym (ap ample long) ∙ a));
             },
           );
-      gated = record { refuses = λ g h. none_some (sym e ∙ h); else_late = λ h g w. absurd (let z : ◌≡◌ {A = ℕ} 0 1 = cc in omega arith) };
+      gated = record { refuses = λ g h. none_some (sym e ∙ h); else_late = λ h g w. absurd cc };
       stays = λ h. absurd (both_ways false refl h);
       long = long;
     }

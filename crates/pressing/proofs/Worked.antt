@@ -27,7 +27,7 @@ filled_is seed tables h = cond-true (leb 12288 (length tables)) _ _ (le-leb 1228
 pub never_short : (tables : List ℕ) (o : Result (Unit {0}) HashFault) (f : HashFault) → 12288 ≤ length tables → Told (room_fault (length tables) ∷ []) tt o → o ≡ Err f → ⊥
 never_short tables o f h t e =
     let q : o ≡ Ok tt = t.is ∙ ap (λ b. with_value (first (unless b ShortTables ∷ [])) tt) (le-leb 12288 (length tables) h) in
-    let z : ◌≡◌ {A = ℕ} 0 1 = cc in omega arith
+    cc
 
 drawn_part : (seed : ℕ) (rest : List ℕ) → take 12288 (tables_of seed ++ rest) ≡ tables_of seed
 drawn_part seed rest = take-append-le 12288 (tables_of seed) rest (omega (arith, length_tables seed)) ∙ take_all 12288 (tables_of seed) (omega (arith, length_tables seed))
