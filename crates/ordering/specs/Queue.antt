@@ -1,6 +1,8 @@
 -- The vertices that wait for their place, the order as it is written, and what `order` answers and leaves.
 use Rattle.std.specs.Prelude.{◌≡◌, ℕ, ◌*◌, ◌<◌, ◌≤◌, Bool, true, false, cond, ◌&&◌, List, length, take, drop, Some, None, sum_by, Option, ◌==◌, ◌≢◌, nat_le, slice_index}
 use Rattle.std.specs.List.{AllByRecursion}
+use Rattle.std.specs.Borrow.{MutBor}
+use Rattle.heap.specs.Order.{SameLoan}
 use Rattle.hashing.specs.Triples.{Triple}
 use Rattle.runs.specs.Lists.{among}
 use Rattle.runs.specs.Order.{degree, order, Best, Next}
@@ -10,6 +12,10 @@ use Rattle.graph.specs.declared.rows.Vertex.{Vertex}
 use Rattle.graph.specs.declared.rows.Place.{Place}
 use Rattle.graph.specs.declared.rows.Place.TheVariants.{Unseen, Waits, At}
 use Rattle.graph.specs.Chains.{row, Graph}
+
+-- the slice lent to the heap is the same, and as long
+abbrev pub SameRoom : MutBor (List Waiting) → MutBor (List Waiting) → Type 0
+SameRoom old new = SameLoan old new × (length new.now ≡ length old.now)
 
 abbrev pub is_unseen : Place → Bool
 is_unseen Unseen = true

@@ -1,11 +1,9 @@
 //! The vertices that wait for their place in the order.
 ghost use Rattle.std.specs.Prelude.{◌≡◌, ℕ, ◌+◌, ◌*◌, ◌<◌, ◌≤◌, Bool, ◌||◌, List, [], ◌∷◌, ◌++◌, length, take, drop, ◌==◌};
-ghost use Rattle.heap.specs.Order.{Holds};
-ghost use Rattle.orders.specs.Sooner.{sooner};
 ghost use Rattle.hashing.specs.Triples.{Triple};
 ghost use Rattle.runs.specs.Order.{degree, joined};
 ghost use Rattle.graph.specs.Chains.{row, Graph};
-ghost use Rattle.ordering.specs.Queue.{is_unseen, Queued, Replaced, Weighed, Greatest, degree_at, unseen_at, Led, Bounded, Resumed, Chosen, Low, fresh};
+ghost use Rattle.ordering.specs.Queue.{is_unseen, Queued, Replaced, Weighed, Greatest, degree_at, unseen_at, Led, Bounded, Resumed, Chosen, Low, fresh, SameRoom};
 
 use graph::chain::Chain;
 use graph::rows::{Edge, Place, Vertex};
@@ -76,9 +74,8 @@ fn start(vertices: &[Vertex], last: Option<u16>) -> Option<u16>
 
 // Has the vertex u wait, if it was not seen before.
 fn meet(vertices: &mut [Vertex], m: usize, u: u16, heap: &mut Heap<Waiting>)
-    requires { (m ≤ length vertices.old) × Holds sooner heap.old.items.now heap.old.len }
-    ensures lent { (heap.new.items.ghost_name ≡ heap.old.items.ghost_name) × (length heap.new.items.now ≡ length heap.old.items.now) }
-    ensures holds { Holds sooner heap.new.items.now heap.new.len }
+    requires { m ≤ length vertices.old }
+    ensures lent { SameRoom heap.old.items heap.new.items }
     ensures replaced { Replaced m vertices.old vertices.new }
     ensures queued { (weight : ℕ → ℕ) (vs : List ℕ) (seen : ℕ → Bool) → u < m → m ≤ length heap.old.items.now → Weighed m weight vertices.old → Queued m weight vs seen vertices.old (take heap.old.len heap.old.items.now) → Queued m weight vs (λ x. (x == u) || seen x) vertices.new (take heap.new.len heap.new.items.now) }
 {
@@ -97,9 +94,8 @@ pub(crate) fn choose(
     last: &mut Option<u16>,
     heap: &mut Heap<Waiting>,
 ) -> Option<u16>
-    requires { (2 * r ≤ length vertices.now) × (r ≤ 1024) × Holds sooner heap.old.items.now heap.old.len × Bounded (2 * r) vertices.now last.old }
-    ensures lent { (heap.new.items.ghost_name ≡ heap.old.items.ghost_name) × (length heap.new.items.now ≡ length heap.old.items.now) }
-    ensures holds { Holds sooner heap.new.items.now heap.new.len }
+    requires { (2 * r ≤ length vertices.now) × (r ≤ 1024) × Bounded (2 * r) vertices.now last.old }
+    ensures lent { SameRoom heap.old.items heap.new.items }
     ensures bounded { Bounded (2 * r) vertices.now last.new }
     ensures low { Low (2 * r) result }
     ensures chosen { (es : List Triple) (vs : List ℕ) → Weighed (2 * r) (degree es) vertices.now → Queued (2 * r) (degree es) vs (joined es vs) vertices.now (take heap.old.len heap.old.items.now) → Chosen es r vs (take heap.old.len heap.old.items.now) (take heap.new.len heap.new.items.now) result }
@@ -119,9 +115,8 @@ pub(crate) fn gather(
     v: usize,
     heap: &mut Heap<Waiting>,
 )
-    requires { (2 * r ≤ length vertices.old) × (r ≤ 1024) × (v < 2 * r) × Holds sooner heap.old.items.now heap.old.len }
-    ensures lent { (heap.new.items.ghost_name ≡ heap.old.items.ghost_name) × (length heap.new.items.now ≡ length heap.old.items.now) }
-    ensures holds { Holds sooner heap.new.items.now heap.new.len }
+    requires { (2 * r ≤ length vertices.old) × (r ≤ 1024) × (v < 2 * r) }
+    ensures lent { SameRoom heap.old.items heap.new.items }
     ensures replaced { Replaced (2 * r) vertices.old vertices.new }
     ensures queued { (es : List Triple) (vs : List ℕ) → length es ≡ length edges.now → Graph es r edges.now vertices.old → 2 * r ≤ length heap.old.items.now → Queued (2 * r) (degree es) (vs ++ v ∷ []) (joined es vs) vertices.old (take heap.old.len heap.old.items.now) → Queued (2 * r) (degree es) (vs ++ v ∷ []) (joined es (vs ++ v ∷ [])) vertices.new (take heap.new.len heap.new.items.now) }
 {

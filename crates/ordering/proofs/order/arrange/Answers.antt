@@ -13,7 +13,6 @@ pub loop-k-init : goal.loop-k-init
 loop-k-init c =
     let e = c.new-heap.ensures.lent in (
       ap length e.1 ∙ c.requires.2,
-      c.new-heap.ensures.holds,
       replaced_none _ _,
       refl,
       tt,
@@ -34,13 +33,12 @@ loop-k-preserved c =
     let after = set l.vertices v (at_place (At l.k) (row l.vertices v)) in
     let put = put_replaced (2 * r) l.k v l.vertices after ch.low lv refl in (
       a.lent.1 ∙ ch.lent.1 ∙ l.invariant.0,
-      a.holds,
-      replaced_both _ _ _ _ l.invariant.2 (replaced_both _ _ _ _ put a.replaced),
-      drop-set-lt (l.k + 1) l.ordered l.k v (omega arith) ∙ sym (drop-drop 1 l.k l.ordered) ∙ ap (drop 1) l.invariant.3 ∙ drop-drop 1 l.k c.args.ordered.now,
+      replaced_both _ _ _ _ l.invariant.1 (replaced_both _ _ _ _ put a.replaced),
+      drop-set-lt (l.k + 1) l.ordered l.k v (omega arith) ∙ sym (drop-drop 1 l.k l.ordered) ∙ ap (drop 1) l.invariant.2 ∙ drop-drop 1 l.k c.args.ordered.now,
       bounded_on (2 * r) l.vertices c.gather.new.vertices (replaced_both _ _ _ _ put a.replaced) c.choose.new.last ch.bounded,
       λ es en g.
-          let w = l.invariant.5 es en g in
-          let h = graph_kept es r edges c.reset.new.vertices l.vertices l.invariant.2.first l.invariant.2.degree g in
+          let w = l.invariant.4 es en g in
+          let h = graph_kept es r edges c.reset.new.vertices l.vertices l.invariant.1.first l.invariant.1.degree g in
           let h1 = graph_kept es r edges l.vertices after put.first put.degree h in
           let next = ch.chosen es (take l.k l.ordered) (graph_weighs es r edges l.vertices h) w.queued in
           arranged_more es r edges l.ordered l.k v l.vertices after _ _ lk lv ch.low w next refl _ _
@@ -54,17 +52,17 @@ returns-clause-exact c =
     let r = c.args.r in
     let edges = c.args.edges.now in
     let b0 = begun_reset (2 * r) c.args.vertices.now c.reset.new.vertices c.reset.ensures.done c.reset.ensures.rest in
-    let b = begun_on _ _ _ _ b0 l.invariant.2 in
+    let b = begun_on _ _ _ _ b0 l.invariant.1 in
     let lk : l.k ≤ length l.ordered = omega arith in
     let full : l.k ≡ 2 * r = omega arith in
     λ es en g.
     let g0 = graph_kept es r edges c.args.vertices.now c.reset.new.vertices b0.first b0.degree g in
     let h = graph_kept es r edges c.args.vertices.now l.vertices b.first b.degree g in
-    let w = l.invariant.5 es en g0 in
+    let w = l.invariant.4 es en g0 in
     subst (OrderedGraph es r edges l.vertices l.ordered) full (in_order es r edges l.ordered l.k l.vertices _ h lk w (all_taken es r edges l.ordered l.k l.vertices _ h lk w (omega arith) (omega arith)))
 
 pub returns-clause-begun : goal.returns-clause-begun
-returns-clause-begun c = begun_on _ _ _ _ (begun_reset (2 * c.args.r) c.args.vertices.now c.reset.new.vertices c.reset.ensures.done c.reset.ensures.rest) c.loop-k.invariant.2
+returns-clause-begun c = begun_on _ _ _ _ (begun_reset (2 * c.args.r) c.args.vertices.now c.reset.new.vertices c.reset.ensures.done c.reset.ensures.rest) c.loop-k.invariant.1
 
 pub returns-in_default-clause-exact : goal.returns-in_default-clause-exact
 returns-in_default-clause-exact c =
@@ -72,13 +70,13 @@ returns-in_default-clause-exact c =
     let r = c.args.r in
     let edges = c.args.edges.now in
     let b0 = begun_reset (2 * r) c.args.vertices.now c.reset.new.vertices c.reset.ensures.done c.reset.ensures.rest in
-    let b = begun_on _ _ _ _ b0 l.invariant.2 in
+    let b = begun_on _ _ _ _ b0 l.invariant.1 in
     let lk : l.k ≤ length l.ordered = omega arith in
     λ es en g.
     let g0 = graph_kept es r edges c.args.vertices.now c.reset.new.vertices b0.first b0.degree g in
     let h = graph_kept es r edges c.args.vertices.now l.vertices b.first b.degree g in
-    let w = l.invariant.5 es en g0 in
+    let w = l.invariant.4 es en g0 in
     in_order es r edges l.ordered l.k l.vertices _ h lk w (c.in_default.ensures.chosen es (take l.k l.ordered) (graph_weighs es r edges l.vertices h) w.queued)
 
 pub returns-in_default-clause-begun : goal.returns-in_default-clause-begun
-returns-in_default-clause-begun c = begun_on _ _ _ _ (begun_reset (2 * c.args.r) c.args.vertices.now c.reset.new.vertices c.reset.ensures.done c.reset.ensures.rest) c.loop-k.invariant.2
+returns-in_default-clause-begun c = begun_on _ _ _ _ (begun_reset (2 * c.args.r) c.args.vertices.now c.reset.new.vertices c.reset.ensures.done c.reset.ensures.rest) c.loop-k.invariant.1

@@ -1,6 +1,4 @@
 use Rattle.std.proofs.Common.{◌≡◌, ◌*◌, List, length, take, drop}
-use Rattle.heap.specs.Order.{Holds}
-use Rattle.orders.specs.Sooner.{sooner}
 use Rattle.hashing.specs.Triples.{Triple}
 use Rattle.graph.specs.Chains.{Graph}
 use Rattle.ordering.specs.Queue.{Replaced, Bounded}
@@ -10,7 +8,6 @@ use Rattle.ordering.proofs.order.arrange.Given as goal
 abbrev pub invariant-loop-k : goal.invariant-loop-k
 invariant-loop-k l =
     (length l.heap.items.now ≡ 2 * l.r)
-    × Holds sooner l.heap.items.now l.heap.len
     × Replaced (2 * l.r) l.initial.vertices l.vertices
     × (drop l.k l.ordered ≡ drop l.k l.initial.ordered)
     × Bounded (2 * l.r) l.vertices l.last

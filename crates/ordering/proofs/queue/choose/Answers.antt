@@ -15,9 +15,9 @@ returns-clause-chosen c =
     let h = c.in-Some.ensures in
     let y = c.in-Some.w in
     λ es vs wd q.
-    let low : y.vertex < 2 * r = popped_low es r vs vertices before wd q y after (h.first c.requires.2) h.popped.content in
+    let low : y.vertex < 2 * r = popped_low es r vs vertices before wd q y after h.first h.popped.content in
     let is = c.then_some.ensures ∙ ap (λ b. then_some b y.vertex) (lt-ltb y.vertex (2 * r) low) in
-    subst (Chosen es r vs before after) (sym is) (popped es r vs vertices before wd q y after (h.first c.requires.2) h.popped.content)
+    subst (Chosen es r vs before after) (sym is) (popped es r vs vertices before wd q y after h.first h.popped.content)
 
 pub returns-in_default-clause-chosen : goal.returns-in_default-clause-chosen
 returns-in_default-clause-chosen c =
@@ -28,5 +28,5 @@ returns-in_default-clause-chosen c =
     let z : 2 * r - 0 ≡ 2 * r = omega arith in
     λ es vs wd q.
     started es r vs c.args.vertices.now (take c.args.heap.now.len items) wd q (take c.pop.new.self.len after)
-    (ap (λ n. take n items) (p.none c.requires.2.0)) (ap (λ n. take n after) (p.count ∙ p.none c.requires.2.0)) c.start.result
+    (ap (λ n. take n items) p.none) (ap (λ n. take n after) (p.count ∙ p.none)) c.start.result
     (greatest_whole (2 * r) (2 * r - 0) c.args.vertices.now z c.requires.0 c.start.result c.start.ensures)

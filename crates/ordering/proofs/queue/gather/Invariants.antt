@@ -1,6 +1,4 @@
 use Rattle.std.proofs.Common.{◌≡◌, ℕ, ◌*◌, ◌≤◌, ltb, List, [], ◌∷◌, ◌++◌, length, take}
-use Rattle.heap.specs.Order.{Holds}
-use Rattle.orders.specs.Sooner.{sooner}
 use Rattle.hashing.specs.Triples.{Triple}
 use Rattle.runs.specs.Order.{degree, joined}
 use Rattle.graph.specs.Chains.{Graph}
@@ -12,7 +10,6 @@ abbrev pub invariant-loop-e : goal.invariant-loop-e
 invariant-loop-e l =
     (l.heap.items.ghost_name ≡ l.initial.heap.items.ghost_name)
     × (length l.heap.items.now ≡ length l.initial.heap.items.now)
-    × Holds sooner l.heap.items.now l.heap.len
     × Replaced (2 * l.r) l.initial.vertices l.vertices
     × ((es : List Triple) (vs : List ℕ) → length es ≡ length l.edges → Graph es l.r l.edges l.initial.vertices → 2 * l.r ≤ length l.initial.heap.items.now →
     Queued (2 * l.r) (degree es) (vs ++ l.v ∷ []) (joined es vs) l.initial.vertices (take l.initial.heap.len l.initial.heap.items.now) →

@@ -13,5 +13,5 @@ returns-then-unseen-clause-queued c =
     let len = c.args.heap.now.len in
     λ weight vs seen a b d q.
     let f = sym c.if-unseen.ensures in
-    let room : len < length items = omega (arith, has_room m weight vs vertices (take len items) seen q u a f, length-take-le len items c.requires.1.0) in
-    met_first m weight vs vertices (take len items) seen q u a f c.requires.0 record { degree = (row vertices u).degree; vertex = u } refl (d u a) _ (pushed_room _ _ _ _ _ _ room c.push.ensures.pushed) _ refl
+    let room : len < length items = omega (arith, has_room m weight vs vertices (take len items) seen q u a f, length-take-le len items c.args.heap.now.holds.0) in
+    met_first m weight vs vertices (take len items) seen q u a f c.requires record { degree = (row vertices u).degree; vertex = u } refl (d u a) _ (pushed_room _ _ _ _ _ _ room c.push.ensures.pushed) _ refl
