@@ -112,7 +112,7 @@ any_order kind p qs old w room has all =
     (row kind p (λ x. ⊥) (λ x. Among x qs) qs old old w room has (λ x a. inr a) (none kind p old))
 
 pub none_stands : NoneStands
-none_stands kind p old = fewer kind p (λ x. ⊥) (Those (λ x. false)) old old (λ x e. let z : ◌≡◌ {A = ℕ} 0 1 = cc in omega arith) (none kind p old)
+none_stands kind p old = fewer kind p (λ x. ⊥) (Those (λ x. false)) old old (λ x e. cc) (none kind p old)
 
 pub one_more_stands : OneMoreStands
 one_more_stands kind p done more = one_more kind p (Those done) (Those more)

@@ -29,7 +29,7 @@ same_first : (x t y u : ℕ) → ◌≡◌ {A = Option (ℕ × ℕ)} (Some (x, t
 same_first x t y u e = ap (λ (p : ℕ × ℕ). p.0) (same_pair (x, t) (y, u) e)
 
 none_some : (x t : ℕ) → ◌≡◌ {A = Option (ℕ × ℕ)} None (Some (x, t)) → ⊥
-none_some x t e = let z : ◌≡◌ {A = ℕ} 0 1 = cc in omega arith
+none_some x t e = cc
 
 -- what the lengths tell
 pub record Long (n r level edges vertices ordered slots : ℕ) : Type 0 where

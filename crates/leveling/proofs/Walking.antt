@@ -32,10 +32,10 @@ joins_miss vs v e h =
 
 some_cond : (b : Bool) (x y : ℕ) → Some x ≡ cond b (Some y) None → (b ≡ true) × (x ≡ y)
 some_cond true x y h = (refl, cc)
-some_cond false x y h = absurd (let z : ◌≡◌ {A = ℕ} 0 1 = cc in omega arith)
+some_cond false x y h = absurd cc
 
 none_cond : (b : Bool) (y : ℕ) → None ≡ cond b (Some y) None → b ≡ false
-none_cond true y h = absurd (let z : ◌≡◌ {A = ℕ} 0 1 = cc in omega arith)
+none_cond true y h = absurd cc
 none_cond false y h = refl
 
 cons_cond : {X : Type 0} (b : Bool) (x : X) (xs : List X) → cons_option (cond b (Some x) None) xs ≡ cond b (x ∷ xs) xs

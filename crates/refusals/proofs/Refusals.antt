@@ -10,7 +10,7 @@ module _ {F : Type 0} where
   shifted os w h (suc j) l = h j (omega arith)
 
   pub first_refuses : (os : List (Option F)) (f : F) → first os ≡ Some f → RefusedBy os f
-  first_refuses [] f e = absurd (let z : ◌≡◌ {A = ℕ} 0 1 = cc in omega arith)
+  first_refuses [] f e = absurd cc
   first_refuses (Some g ∷ os) f e = record { which = 0; within = omega arith; broken = e; earlier = λ j h. absurd (omega arith) }
   first_refuses (None ∷ os) f e =
       let q = first_refuses os f e in
@@ -18,7 +18,7 @@ module _ {F : Type 0} where
 
   pub all_met : (os : List (Option F)) → first os ≡ None → (j : ℕ) → get_or os j None ≡ None
   all_met [] e j = refl
-  all_met (Some g ∷ os) e j = absurd (let z : ◌≡◌ {A = ℕ} 0 1 = cc in omega arith)
+  all_met (Some g ∷ os) e j = absurd cc
   all_met (None ∷ os) e zero = refl
   all_met (None ∷ os) e (suc j) = all_met os e j
 
@@ -44,7 +44,7 @@ module _ {F : Type 0} where
       }
 
   from : (check : ℕ → Option F) (i k : ℕ) (f : F) → each check i k ≡ Some f → From check i k f
-  from check i zero f e = absurd (let z : ◌≡◌ {A = ℕ} 0 1 = cc in omega arith)
+  from check i zero f e = absurd cc
   from check i (suc k) f e = here_or_on check i k f (check i) refl e (from check (suc i) k f)
 
   pub lowest_refuses : (check : ℕ → Option F) (k : ℕ) (f : F) → each check 0 k ≡ Some f → Lowest check k f

@@ -76,7 +76,7 @@ found_cond true a o x h = inl (refl, cc)
 found_cond false a o x h = inr (refl, h)
 
 none_cond : (t : Bool) (a : ℕ × ℕ) (o : Option (ℕ × ℕ)) → cond t (Some a) o ≡ None → (t ≡ false) × (o ≡ None)
-none_cond true a o h = absurd (let z : ◌≡◌ {A = ℕ} 0 1 = cc in omega arith)
+none_cond true a o h = absurd cc
 none_cond false a o h = (refl, h)
 
 module _ (n : ℕ) (rotation : ℕ → ℕ) (filled bs : List ℕ) where
@@ -98,7 +98,7 @@ module _ (n : ℕ) (rotation : ℕ → ℕ) (filled bs : List ℕ) where
     pub before : (u : ℕ) → j ≤ u → u < step → test u ≡ false
 
   pub first_some : (k j : ℕ) (x : ℕ × ℕ) → first_fit n rotation filled bs k j ≡ Some x → FirstStep k j x
-  first_some zero j x h = absurd (let z : ◌≡◌ {A = ℕ} 0 1 = cc in omega arith)
+  first_some zero j x h = absurd cc
   first_some (suc k) j x h = elim (found_cond (test j) (rotation j, suc j) (first_fit n rotation filled bs k (suc j)) x h) [
     | inl p ↦ record {
       step = j;

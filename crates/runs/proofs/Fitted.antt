@@ -16,17 +16,17 @@ use Rattle.runs.proofs.Standing.{fit_passed, found_step, asked_below}
 
 -- only an unfit level is carried
 pub carries_level : (f : PressFault) (l : ℕ) → carried f ≡ Some l → f ≡ Unfit l
-carries_level WrongStage l e = absurd (let z : ◌≡◌ {A = ℕ} 0 1 = cc in omega arith)
-carries_level ShortList l e = absurd (let z : ◌≡◌ {A = ℕ} 0 1 = cc in omega arith)
-carries_level TooManyNames l e = absurd (let z : ◌≡◌ {A = ℕ} 0 1 = cc in omega arith)
-carries_level SpellingEntered l e = absurd (let z : ◌≡◌ {A = ℕ} 0 1 = cc in omega arith)
-carries_level WaySize l e = absurd (let z : ◌≡◌ {A = ℕ} 0 1 = cc in omega arith)
-carries_level NoName l e = absurd (let z : ◌≡◌ {A = ℕ} 0 1 = cc in omega arith)
-carries_level VertexCount l e = absurd (let z : ◌≡◌ {A = ℕ} 0 1 = cc in omega arith)
-carries_level Seed l e = absurd (let z : ◌≡◌ {A = ℕ} 0 1 = cc in omega arith)
-carries_level Clash l e = absurd (let z : ◌≡◌ {A = ℕ} 0 1 = cc in omega arith)
+carries_level WrongStage l e = absurd cc
+carries_level ShortList l e = absurd cc
+carries_level TooManyNames l e = absurd cc
+carries_level SpellingEntered l e = absurd cc
+carries_level WaySize l e = absurd cc
+carries_level NoName l e = absurd cc
+carries_level VertexCount l e = absurd cc
+carries_level Seed l e = absurd cc
+carries_level Clash l e = absurd cc
 carries_level (Unfit k) l e = ap (λ j. Unfit j) (let q : k ≡ l = cc in q)
-carries_level ShortString l e = absurd (let z : ◌≡◌ {A = ℕ} 0 1 = cc in omega arith)
+carries_level ShortString l e = absurd cc
 
 module _ {N : Type 0} (spelling : N → List ℕ) where
   -- an answer that is no refusal is that of an accepted call
@@ -35,7 +35,7 @@ module _ {N : Type 0} (spelling : N → List ℕ) where
     where
       go : (o : Option PressFault) → unless_refused o (Ok (answer_accepted spelling m c)) (λ f. Err f) ≡ Ok x → (o ≡ None) × (answer_accepted spelling m c ≡ x)
       go None e = (refl, cc)
-      go (Some f) e = absurd (let z : ◌≡◌ {A = ℕ} 0 1 = cc in omega arith)
+      go (Some f) e = absurd cc
 
   pub record Answered (m : Run N) (l : Lent) (w : Meaning) (v tries : ℕ) : Type 0 where
     pub accepts : refusal spelling m (fit l w) ≡ None
@@ -94,7 +94,7 @@ module _ {N : Type 0} (spelling : N → List ℕ) where
 
     unfit_blocked : (o : Option (ℕ × ℕ)) → fit_found spelling m w ≡ o → outcome o ≡ Err (Unfit m.level) → EveryRotationBlocked spelling m
     unfit_blocked None e h = none_fits e
-    unfit_blocked (Some (v, tries)) e h = absurd (let z : ◌≡◌ {A = ℕ} 0 1 = cc in omega arith)
+    unfit_blocked (Some (v, tries)) e h = absurd cc
 
     blocked_unfit : EveryRotationBlocked spelling m → (o : Option (ℕ × ℕ)) → fit_found spelling m w ≡ o → outcome o ≡ Err (Unfit m.level)
     blocked_unfit h None e = refl

@@ -13,7 +13,7 @@ some_same : (a b : ℕ) → Some a ≡ Some b → a ≡ b
 some_same a b e = cc
 
 some_none : (a : ℕ) → ◌≡◌ {A = Option ℕ} (Some a) None → ⊥
-some_none a e = let z : ◌≡◌ {A = ℕ} 0 1 = cc in omega arith
+some_none a e = cc
 
 module _ (weight : ℕ → ℕ) (ok : ℕ → Bool) where
   -- the best of the numbers below m, or none of weight above 0 passes

@@ -32,7 +32,7 @@ answer_same : (e f : Entry) → one_look f e.spelling ≡ Some e.setting → f �
 answer_same e f h = go (bytes_eq f.spelling e.spelling) refl h
   where
     go : (b : Bool) → bytes_eq f.spelling e.spelling ≡ b → cond b (Some f.setting) None ≡ Some e.setting → f ≡ e
-    go false q k = absurd (let z : ◌≡◌ {A = ℕ} 0 1 = cc in omega arith)
+    go false q k = absurd cc
     go true q k =
         let a : f.spelling ≡ e.spelling = same_true f.spelling e.spelling q in
         let b : f.setting ≡ e.setting = cc in

@@ -26,11 +26,11 @@ use Rattle.runs.proofs.Graph.{Edge, triple_edge, Filled, filled_none, filled_lev
 -- a check that finds nothing is met, and so is each of several
 met : {F : Type 0} (b : Bool) (f : F) → unless b f ≡ None → b ≡ true
 met true f h = refl
-met false f h = absurd (let z : ◌≡◌ {A = ℕ} 0 1 = cc in omega arith)
+met false f h = absurd cc
 
 or_none : {F : Type 0} (o p : Option F) → or o p ≡ None → (o ≡ None) × (p ≡ None)
 or_none None p h = (refl, h)
-or_none (Some f) p h = absurd (let z : ◌≡◌ {A = ℕ} 0 1 = cc in omega arith)
+or_none (Some f) p h = absurd cc
 
 clear : {F : Type 0} (os : List (Option F)) → first os ≡ None → AllByRecursion (λ o. o ≡ None) os
 clear [] h = tt

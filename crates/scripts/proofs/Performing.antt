@@ -21,9 +21,9 @@ use Rattle.scripts.specs.Script.{as_call, StringAfter, Performed}
 
 -- over short lists the first two checks refuse, and not for a clash
 pub short_gate : (b a : Bool) (os : List (Option PressFault)) → a ≡ false → (f : PressFault) × (first (unless b WrongStage ∷ unless a ShortList ∷ os) ≡ Some f) × (f ≡ Clash → ⊥)
-short_gate true true os e = absurd (let z : ◌≡◌ {A = ℕ} 0 1 = cc in omega arith)
-short_gate true false os e = (ShortList, refl, λ h. let z : ◌≡◌ {A = ℕ} 0 1 = cc in omega arith)
-short_gate false a os e = (WrongStage, refl, λ h. let z : ◌≡◌ {A = ℕ} 0 1 = cc in omega arith)
+short_gate true true os e = absurd cc
+short_gate true false os e = (ShortList, refl, λ h. cc)
+short_gate false a os e = (WrongStage, refl, λ h. cc)
 
 at_err : {T : Type 0} {A : Type 0} (P : T → Type 0) (r : Result T PressFault) (f : PressFault) → r ≡ Err f → MatchResult r P (λ _. A) → A
 at_err {T} {A} P r f e h = subst (λ (r : Result T PressFault). MatchResult r P (λ _. A)) e h
@@ -37,12 +37,12 @@ mapped_answer ok post (Err f) a is h = h
 -- an answer of another call is no length
 no_length : {T : Type 0} (ok : T → Outcome) → ((x : T) (k : ℕ) → ok x ≡ answered.Sealed k → ⊥) → (r : Result T PressFault) (a : Answer) → a ≡ as_answer ok r → (k : ℕ) → a ≡ Ok (answered.Sealed k) → ⊥
 no_length ok ne (Ok x) a e k h = ne x k cc
-no_length ok ne (Err f) a e k h = let z : ◌≡◌ {A = ℕ} 0 1 = cc in omega arith
+no_length ok ne (Err f) a e k h = cc
 
 -- a length is answered exactly by an accepted seal
 to_ok : (o : Result ℕ PressFault) (a : Answer) (k : ℕ) → a ≡ as_answer (λ k. answered.Sealed k) o → a ≡ Ok (answered.Sealed k) → o ≡ Ok k
 to_ok (Ok j) a k e h = ap (λ i. Ok i) (let z : j ≡ k = cc in z)
-to_ok (Err f) a k e h = absurd (let z : ◌≡◌ {A = ℕ} 0 1 = cc in omega arith)
+to_ok (Err f) a k e h = absurd cc
 
 to_err : (o : Result ℕ PressFault) (a : Answer) → a ≡ as_answer (λ k. answered.Sealed k) o → ((k : ℕ) → a ≡ Ok (answered.Sealed k) → ⊥) → is_err o ≡ true
 to_err (Ok j) a e ne = absurd (ne j e)
@@ -76,7 +76,7 @@ module _ {N W : Type 0} (spelling : N → List ℕ) (kind : ℕ) (meaning : W �
       (λ s.
       let g = short_gate (belongs event.Enter p.stage) (ample (lent l)) (unless (ltb p.count 1024) TooManyNames ∷ []) s in
       at_err _ r g.0 (d.done.gated.refuses g.0 g.1) d.lists)
-      (λ _ k h. let z : ◌≡◌ {A = ℕ} 0 1 = cc in omega arith))
+      (λ _ k h. cc))
 
   pub mapping : {o : Result (Unit {0}) PressFault} {r seed : ℕ} {p p' : Pressing N} {l l' : Memory N} {string : List ℕ} (c : Call N W) (a : Answer) → c ≡ Map r seed → MapDone spelling r seed p l o p' l' → a ≡ as_answer (λ _. answered.Mapped) o →
       Performed spelling kind meaning c p l string a p' l' string
@@ -85,14 +85,14 @@ module _ {N W : Type 0} (spelling : N → List ℕ) (kind : ℕ) (meaning : W �
       (λ s.
       let g = short_gate (belongs event.Map p.stage) (ample (lent l)) (unless (ltb 0 p.count) NoName ∷ unless (leb 1 r && leb r 1024) VertexCount ∷ unless (leb 1 seed && leb seed 2147483646) Seed ∷ []) s in
       d.kept g.0 (d.done.gated.refuses g.0 g.1) g.2)
-      (λ _ k h. let z : ◌≡◌ {A = ℕ} 0 1 = cc in omega arith))
+      (λ _ k h. cc))
 
   pub ordering : {o : Result ℕ PressFault} {p p' : Pressing N} {l l' : Memory N} {string : List ℕ} (c : Call N W) (a : Answer) → c ≡ Order → OrderDone spelling p l o p' l' → a ≡ as_answer (λ k. answered.Ordered k) o →
       Performed spelling kind meaning c p l string a p' l' string
   ordering {o} {p} {p'} {l} {l'} {string} c a is d e =
       subst (λ c. Performed spelling kind meaning c p l string a p' l' string) (sym is) (by_result Order a d.done e
       (λ s. let g = short_gate (belongs event.Order p.stage) (ample (lent l)) [] s in at_err _ o g.0 (d.done.gated.refuses g.0 g.1) d.lists)
-      (λ _ k h. let z : ◌≡◌ {A = ℕ} 0 1 = cc in omega arith))
+      (λ _ k h. cc))
 
   pub fitting : {o : Result FitAnswer PressFault} {w : W} {p p' : Pressing N} {l l' : Memory N} {string : List ℕ} (c : Call N W) (a : Answer) → c ≡ Fit w → FitDone spelling (meaning w) p l o p' l' → a ≡ as_answer fitted o →
       Performed spelling kind meaning c p l string a p' l' string
@@ -101,12 +101,12 @@ module _ {N W : Type 0} (spelling : N → List ℕ) (kind : ℕ) (meaning : W �
       (λ s.
       let g = short_gate (belongs (event.Fit false) p.stage) (ample (lent l)) (unless (eqb (meaning w).size p.count) WaySize ∷ []) s in
       at_err _ o g.0 (d.done.gated.refuses g.0 g.1) d.lists)
-      (λ _ k h. let z : ◌≡◌ {A = ℕ} 0 1 = cc in omega arith))
+      (λ _ k h. cc))
 
   pub reopening : {r : Result (Unit {0}) PressFault} {p p' : Pressing N} {l : Memory N} {string : List ℕ} (c : Call N W) (a : Answer) → c ≡ Reopen → ReopenDone spelling p r p' → a ≡ as_answer (λ _. answered.Reopened) r →
       Performed spelling kind meaning c p l string a p' l string
   reopening {r} {p} {p'} {l} {string} c a is d e =
-      subst (λ c. Performed spelling kind meaning c p l string a p' l string) (sym is) (by_result Reopen a (d l) e (λ _. refl) (λ _ k h. let z : ◌≡◌ {A = ℕ} 0 1 = cc in omega arith))
+      subst (λ c. Performed spelling kind meaning c p l string a p' l string) (sym is) (by_result Reopen a (d l) e (λ _. refl) (λ _ k h. cc))
 
   pub sealing : {o : Result ℕ PressFault} {p p' : Pressing N} {l l' : Memory N} {string string' : List ℕ} (c : Call N W) (a : Answer) → c ≡ Seal → SealDone spelling kind p l string o p' l' string' → a ≡ as_answer (λ k. answered.Sealed k) o →
       Performed spelling kind meaning c p l string a p' l' string'

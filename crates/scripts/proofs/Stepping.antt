@@ -56,8 +56,8 @@ module _ {N W : Type 0} (spelling : N → List ℕ) (meaning : W → Meaning) (m
 
 module _ {N : Type 0} (spelling : N → List ℕ) (m : Run N) where
   fit_no_length : (o : Option (ℕ × ℕ)) (k : ℕ) → fit_answer o ≡ answered.Sealed k → ⊥
-  fit_no_length None k e = let z : ◌≡◌ {A = ℕ} 0 1 = cc in omega arith
-  fit_no_length (Some (v, t)) k e = let z : ◌≡◌ {A = ℕ} 0 1 = cc in omega arith
+  fit_no_length None k e = cc
+  fit_no_length (Some (v, t)) k e = cc
 
   by_level : (o : Option (ℕ × ℕ)) → (with_level spelling m o).stage ≡ Sealed → with_level spelling m o ≡ m
   by_level None e = refl
@@ -89,11 +89,11 @@ module _ {N : Type 0} (spelling : N → List ℕ) (m : Run N) where
   not_length c k ne e = absurd (ne (was_accepted spelling m c (answered.Sealed k) e).1)
 
   pub was_sealing : (c : run.Call N) (k : ℕ) → answer spelling m c ≡ Ok (answered.Sealed k) → Sealing c k
-  was_sealing (run.enter l x v) k e = not_length (run.enter l x v) k (λ q. let z : ◌≡◌ {A = ℕ} 0 1 = cc in omega arith) e
-  was_sealing (run.map_to l r seed) k e = not_length (run.map_to l r seed) k (λ q. let z : ◌≡◌ {A = ℕ} 0 1 = cc in omega arith) e
-  was_sealing (run.order_by l) k e = not_length (run.order_by l) k (λ q. let z : ◌≡◌ {A = ℕ} 0 1 = cc in omega arith) e
+  was_sealing (run.enter l x v) k e = not_length (run.enter l x v) k (λ q. cc) e
+  was_sealing (run.map_to l r seed) k e = not_length (run.map_to l r seed) k (λ q. cc) e
+  was_sealing (run.order_by l) k e = not_length (run.order_by l) k (λ q. cc) e
   was_sealing (run.fit l w) k e = not_length (run.fit l w) k (fit_no_length (fit_found spelling m w) k) e
-  was_sealing run.reopen k e = not_length run.reopen k (λ q. let z : ◌≡◌ {A = ℕ} 0 1 = cc in omega arith) e
+  was_sealing run.reopen k e = not_length run.reopen k (λ q. cc) e
   was_sealing (run.seal l room) k e =
       let p = was_accepted spelling m (run.seal l room) (answered.Sealed k) e in
       record { lent = l; room = room; is_seal = refl; passed = p.0; length_is = same (string_length m) k p.1 }
@@ -102,13 +102,13 @@ module _ {N : Type 0} (spelling : N → List ℕ) (m : Run N) where
       same i j q = cc
 
 a_length : (a : Answer) → ((k : ℕ) × (a ≡ Ok (answered.Sealed k))) ⊎ ((k : ℕ) → a ≡ Ok (answered.Sealed k) → ⊥)
-a_length (Ok answered.Entered) = inr (λ k e. let z : ◌≡◌ {A = ℕ} 0 1 = cc in omega arith)
-a_length (Ok answered.Mapped) = inr (λ k e. let z : ◌≡◌ {A = ℕ} 0 1 = cc in omega arith)
-a_length (Ok (answered.Ordered j)) = inr (λ k e. let z : ◌≡◌ {A = ℕ} 0 1 = cc in omega arith)
-a_length (Ok (answered.Fitted v t)) = inr (λ k e. let z : ◌≡◌ {A = ℕ} 0 1 = cc in omega arith)
-a_length (Ok answered.Reopened) = inr (λ k e. let z : ◌≡◌ {A = ℕ} 0 1 = cc in omega arith)
+a_length (Ok answered.Entered) = inr (λ k e. cc)
+a_length (Ok answered.Mapped) = inr (λ k e. cc)
+a_length (Ok (answered.Ordered j)) = inr (λ k e. cc)
+a_length (Ok (answered.Fitted v t)) = inr (λ k e. cc)
+a_length (Ok answered.Reopened) = inr (λ k e. cc)
 a_length (Ok (answered.Sealed j)) = inl (j, refl)
-a_length (Err f) = inr (λ k e. let z : ◌≡◌ {A = ℕ} 0 1 = cc in omega arith)
+a_length (Err f) = inr (λ k e. cc)
 
 -- 3. one step
 
@@ -165,11 +165,11 @@ module _ {N W : Type 0} (spelling : N → List ℕ) (kind : ℕ) (meaning : W �
         ∙ d.written.exact m cut_left k e)
       where
         seal_room : (x : Call N W) (l : Lent) (r q : ℕ) (y : Lent) → as_call meaning l r x ≡ run.seal y q → q ≡ r
-        seal_room (Enter x v) l r q y e = absurd (let z : ◌≡◌ {A = ℕ} 0 1 = cc in omega arith)
-        seal_room (Map i j) l r q y e = absurd (let z : ◌≡◌ {A = ℕ} 0 1 = cc in omega arith)
-        seal_room Order l r q y e = absurd (let z : ◌≡◌ {A = ℕ} 0 1 = cc in omega arith)
-        seal_room (Fit w) l r q y e = absurd (let z : ◌≡◌ {A = ℕ} 0 1 = cc in omega arith)
-        seal_room Reopen l r q y e = absurd (let z : ◌≡◌ {A = ℕ} 0 1 = cc in omega arith)
+        seal_room (Enter x v) l r q y e = absurd cc
+        seal_room (Map i j) l r q y e = absurd cc
+        seal_room Order l r q y e = absurd cc
+        seal_room (Fit w) l r q y e = absurd cc
+        seal_room Reopen l r q y e = absurd cc
         seal_room Seal l r q y e = cc
 
         within : {k : ℕ} (s : Sealing spelling m call k) → string_length m ≤ s.room → k ≤ length string'

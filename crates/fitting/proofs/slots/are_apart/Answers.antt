@@ -30,7 +30,7 @@ returns-then-marks-slot c =
     let is : get_or (offsets level) i 0 % n ≡ (get_or level i no_name).offset % n = ap (λ b. b % n) (offset_at level i) in
     let met = c.loop-name.invariant.1.only ((get_or level i no_name).offset % n) c.if-marks-slot.true in
     record {
-      yes = λ e. absurd (let z : ◌≡◌ {A = ℕ} 0 1 = cc in omega arith);
+      yes = λ e. absurd cc;
       other = λ _ apart. apart met.0 i (met.1, omega (arith, length_offsets level), met.2 ∙ sym is);
     }
 
@@ -39,5 +39,5 @@ returns c =
     let level = c.args.level.now in
     record {
       yes = λ _ j k h. let b = h.1 in c.loop-name.invariant.1.apart j k (h.0, omega (arith, length_offsets level), h.2);
-      other = λ e. absurd (let z : ◌≡◌ {A = ℕ} 0 1 = cc in omega arith);
+      other = λ e. absurd cc;
     }
