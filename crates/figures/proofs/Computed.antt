@@ -1,5 +1,5 @@
 -- The worked figures, computed. The graph of the six names is computed once, and the fits over it.
-use Rattle.std.proofs.Common.{◌≡◌, ℕ, suc, cond, eqb, List, [], ◌∷◌, ◌++◌, map, length, get_or, take, set, replicate, Some, None, Ok, Err, Option, refl, ap, ◌∙◌, ap₂}
+use Rattle.std.proofs.Common.{◌≡◌, ℕ, suc, cond, eqb, List, [], ◌∷◌, ◌++◌, map, length, get_or, take, set, replicate, is_some, Some, None, Ok, Err, Option, refl, ap, ◌∙◌, ap₂}
 use Rattle.refusals.specs.Checks.{unless, first}
 use Rattle.hashing.specs.Generator.{tables}
 use Rattle.hashing.specs.Triples.{Triple}
@@ -13,7 +13,7 @@ use Rattle.runs.specs.Answers.{Answer}
 use Rattle.runs.specs.declared.answer.Outcome.TheVariants as answered
 use Rattle.runs.specs.Order.{order}
 use Rattle.runs.specs.Fitting.{slot, level_of, offset, turned, first_fit}
-use Rattle.runs.specs.Runs.{Call, enter, map_to, order_by, fit, seal, Run, is, ample, found, graph, triples, unless_refused, with_level, step, beginning, continued, reckoned, fit_answer, answer, answers, sealed_string}
+use Rattle.runs.specs.Runs.{Call, enter, map_to, order_by, fit, seal, Run, is, ample, graph, triples, unless_refused, with_level, step, beginning, continued, reckoned, fit_answer, answer, answers, sealed_string}
 use Rattle.figures.specs.Figures.{one_string}
 use Rattle.figures.specs.Six.{lent, six_triples, bytes, six_names, six_ordered, fits, six_fitted, stages, one_name}
 
@@ -30,7 +30,7 @@ module _ (es : List Triple) (m : Run (List ℕ)) (w : Meaning) where
   hit = first_fit (length m.names) (asked w m.level) m.filled level (length m.names) 0
 
   abbrev fault : Option PressFault
-  fault = first (unless (is m.stage Ordered) WrongStage ∷ unless (ample lent) ShortList ∷ unless (eqb w.size (length m.names)) WaySize ∷ unless (found hit) (Unfit m.level) ∷ [])
+  fault = first (unless (is m.stage Ordered) WrongStage ∷ unless (ample lent) ShortList ∷ unless (eqb w.size (length m.names)) WaySize ∷ unless (is_some hit) (Unfit m.level) ∷ [])
 
   abbrev after : Option (ℕ × ℕ) → Run (List ℕ)
   after None = m

@@ -1,5 +1,5 @@
 -- Fitting a level, at each of its exits.
-use Rattle.std.proofs.Common.{◌≡◌, ℕ, suc, ◌+◌, ◌*◌, ◌<◌, ◌≤◌, Bool, true, cond, ◌&&◌, eqb, ltb, leb, List, [], ◌∷◌, length, get_or, set, is_some, Some, None, Ok, Err, Option, Result, sym, refl, ap, ◌∙◌, subst, add-one, arith, MatchOption}
+use Rattle.std.proofs.Common.{◌≡◌, ℕ, suc, ◌+◌, ◌*◌, ◌<◌, ◌≤◌, Bool, true, cond, ◌&&◌, eqb, ltb, leb, List, [], ◌∷◌, length, get_or, set, is_some, is_some, Some, None, Ok, Err, Option, Result, sym, refl, ap, ◌∙◌, subst, add-one, arith, MatchOption}
 use Rattle.std.proofs.lemmas.Bool.{eqb-true, eq-eqb, ne_eqb, le-leb, leb-true, lt-ltb, and_parts, and_from}
 use Rattle.std.proofs.lemmas.List.{length-set}
 use Rattle.std.proofs.lemmas.Option.{MatchOption-at_some, MatchOption-at_none}
@@ -12,7 +12,7 @@ use Rattle.runs.specs.declared.fault.PressFault.{PressFault}
 use Rattle.runs.specs.declared.fault.PressFault.TheVariants.{WrongStage, ShortList, WaySize, Unfit}
 use Rattle.runs.specs.Lists.{among}
 use Rattle.runs.specs.Fitting.{slot, settles}
-use Rattle.runs.specs.Runs.{ample, Run, fit, is, rank, found, count, graph, vertex_order, earlier, fit_found, with_level, fit_answer, refusal}
+use Rattle.runs.specs.Runs.{ample, Run, fit, is, rank, count, graph, vertex_order, earlier, fit_found, with_level, fit_answer, refusal}
 use Rattle.runs.proofs.Standing.{AtStage, at, is_true, length_graph}
 use Rattle.runs.proofs.Filling.{filled_by_settled}
 use Rattle.graph.specs.declared.rows.Vertex.{Vertex}
@@ -103,7 +103,7 @@ module _ {N : Type 0} (spelling : N → List ℕ) (m : Run N) (l : Memory N) (ve
 
 module _ {N : Type 0} (spelling : N → List ℕ) (w : Meaning) (p : Pressing N) (l : Memory N) where
   abbrev tail : Run N → Option PressFault
-  tail m = first (unless (found (fit_found spelling m w)) (Unfit m.level) ∷ [])
+  tail m = first (unless (is_some (fit_found spelling m w)) (Unfit m.level) ∷ [])
 
   abbrev checked : Stage → ℕ → List (Option PressFault)
   checked s n = unless (is s Ordered) WrongStage ∷ unless (ample (lent l)) ShortList ∷ unless (eqb w.size n) WaySize ∷ []
@@ -116,7 +116,7 @@ module _ {N : Type 0} (spelling : N → List ℕ) (w : Meaning) (p : Pressing N)
       let a = k.stage in
       let b = k.count in
       let same : first (checked p.stage p.count) ≡ first (checked m.stage (count m)) = λ i. first (checked (a i) (b i)) in
-      first_behind (checked m.stage (count m)) (unless (found (fit_found spelling m w)) (Unfit m.level)) ∙ ap (λ o. or o (tail m)) (sym same)
+      first_behind (checked m.stage (count m)) (unless (is_some (fit_found spelling m w)) (Unfit m.level)) ∙ ap (λ o. or o (tail m)) (sym same)
 
   -- the checks behind that of the lengths, and behind that of the stage
   abbrev of_size : List (Option PressFault)
@@ -209,7 +209,7 @@ module _ {N : Type 0} (spelling : N → List ℕ) (w : Meaning) (p : Pressing N)
               subst (λ y. FitDone spelling w p l y p l') (sym q) (subst (λ y. FitDone spelling w p l (Err (Unfit p.level)) p y) (sym same) (record {
                 done = by_lists spelling (fit (lent l) w) fitted gate unfit p l tail split (Unfit p.level) l open_gate refl refl
                     (λ m k. (
-                      stops (found (fit_found spelling m w)) (Unfit m.level) [] (ap found (sym (told_of m k).answer ∙ none)) ∙ ap (λ n. Some (Unfit n)) (sym k.kept.level),
+                      stops (is_some (fit_found spelling m w)) (Unfit m.level) [] (ap is_some (sym (told_of m k).answer ∙ none)) ∙ ap (λ n. Some (Unfit n)) (sym k.kept.level),
                       k.held,
                     ));
                 lists = refl;
@@ -271,7 +271,7 @@ module _ {N : Type 0} (spelling : N → List ℕ) (w : Meaning) (p : Pressing N)
             accepted = record {
               done = by_acceptance spelling (fit (lent l) w) fitted gate unfit p l tail split answer p' l' open_gate long law
                   (λ m k. (
-                    goes (found (fit_found spelling m w)) (Unfit m.level) [] (ap found (found_is m k)),
+                    goes (is_some (fit_found spelling m w)) (Unfit m.level) [] (ap is_some (found_is m k)),
                     sym (ap fit_answer (found_is m k)),
                     subst (λ y. Kept spelling (with_level spelling m y) p') (sym (found_is m k)) (kept m k),
                     λ _. subst (λ y. Held spelling (with_level spelling m y) l') (sym (found_is m k)) (held m k),

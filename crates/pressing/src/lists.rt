@@ -3,14 +3,15 @@ ghost use Rattle.runs.specs.Runs.{ample};
 ghost use Rattle.pressing.specs.Memory.{held, lent};
 
 use graph::rows::{Edge, Row, Vertex};
+use hashing::sizes::{self, MOST_ON_A_SIDE};
 use hashing::tables::TABLE_NUMBERS;
 use orders::waiting::Waiting;
 
 /// The most names of a pressing, and how many rows, edges and slots are lent at least.
-pub const MOST_NAMES: usize = 1024;
+pub const MOST_NAMES: usize = sizes::MOST_NAMES;
 
 /// The most vertices, and how many vertices, heap places and ordered places are lent at least.
-pub const MOST_VERTICES: usize = 2048;
+pub const MOST_VERTICES: usize = 2 * MOST_ON_A_SIDE;
 
 /// The work lists that a caller lends to a call.
 #[derive(Drop)]

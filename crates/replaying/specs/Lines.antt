@@ -4,8 +4,6 @@ use Rattle.runs.specs.Answers.{Answer}
 use Rattle.runs.specs.declared.answer.Outcome.TheVariants as answer
 use Rattle.typing.specs.declared.typed.Unlisted.{Unlisted}
 use Rattle.typing.specs.declared.typed.Unlisted.TheVariants as unlisted
-use Rattle.replaying.specs.declared.reply.Reply.{Reply}
-use Rattle.replaying.specs.declared.reply.Reply.TheVariants as reply
 use Rattle.replaying.specs.declared.said.Said.{Said}
 use Rattle.replaying.specs.declared.said.Said.TheVariants as said
 use Rattle.replaying.specs.declared.uncalled.Uncalled.{Uncalled}
@@ -20,10 +18,14 @@ abbrev pub of_unlisted : Unlisted → Uncalled
 of_unlisted (unlisted.Refused f) = uncalled.Name f
 of_unlisted unlisted.Unread = uncalled.Unread
 
+-- what its call answers, or why it makes none
+abbrev pub Reply : Type 0
+Reply = Result Answer Uncalled
+
 -- a line is answered by its call, or with why it makes none
 abbrev pub reply_to : Line → Answer → Reply
-reply_to (Ok _) a = reply.Called a
-reply_to (Err u) a = reply.Uncalled u
+reply_to (Ok _) a = Ok a
+reply_to (Err u) a = Err u
 
 -- the line that is answered, or none
 abbrev pub lines_of : {N : Type 0} → Result (Said N) Uncalled → List Line

@@ -6,6 +6,6 @@ pub mod reply;
 mod said;
 mod session;
 mod text;
-mod uncalled;
+pub mod uncalled;
 
 pub use text::replay;

@@ -3,7 +3,7 @@ use lending::{FULL, LONGEST_STRING};
 use mixed_ways::kept::KeptList;
 use mixed_ways::mixed::Mixed;
 use pressing::lists::Lengths;
-use scripts::script::Call;
+use scripts::script::{Call, Lent};
 use std::alloc::{AllocError, Global};
 use std::str::SplitWhitespace;
 use typing::numbers::{Capped, number, or_0, or_most, seed_or_0};
@@ -18,13 +18,6 @@ pub const FULLY_LENT: Lent = Lent {
     lists: FULL,
     string: LONGEST_STRING,
 };
-
-/// The lengths of what is lent: the work lists, and the memory for the string.
-#[derive(Clone, Copy, Drop)]
-pub struct Lent {
-    pub lists: Lengths,
-    pub string: usize,
-}
 
 /// What a line says.
 #[derive(Drop)]

@@ -5,7 +5,7 @@ ghost use Rattle.replaying.specs.Lines.{reply_to, lines_of, sealed_after as afte
 ghost use Rattle.std.specs.Option.{option_copied};
 
 use crate::reply::Reply;
-use crate::said::{FULLY_LENT, Lent, ProposedWay, Said};
+use crate::said::{FULLY_LENT, ProposedWay, Said};
 use crate::uncalled::Uncalled;
 use lending::{LONGEST_STRING, WorkLists, filled};
 use mixed_ways::kept::KeptList;
@@ -14,7 +14,7 @@ use names::kind::Kind;
 use pressing::press::Pressing;
 use runs::answer::{Answer, Outcome};
 use scripts::replaying::replay;
-use scripts::script::{Call, Step};
+use scripts::script::{Call, Lent, Step};
 use std::alloc::{AllocError, Global};
 use typing::typed::Typed;
 use ways::stride::StrideWay;
@@ -27,10 +27,7 @@ pub type Line = Result<(), Uncalled>;
 pub fn reply(line: Line, answer: Answer) -> Reply
     ensures { result ≡ reply_to line answer }
 {
-    match line {
-        Ok(()) => Reply::Called(answer),
-        Err(reason) => Reply::Uncalled(reason),
-    }
+    line.map(|()| answer)
 }
 
 /// A session that was read: the script of its calls, and the lines that are answered.
@@ -61,7 +58,7 @@ fn perform<N: Kind, W: Way>(
     ensures sealed { HoldsItsString N.spelling N.number (run_end N.spelling W.meaning (length string.old) script.now) string.new }
 {
     let mut pressing = Pressing::new();
-    let _ = replay(script, &mut pressing, lists.lend(), string, answers);
+    replay(script, &mut pressing, lists.lend(), string, answers).unwrap();
 }
 
 impl<N: Typed> Session<N> {
@@ -82,8 +79,7 @@ impl<N: Typed> Session<N> {
     {
         self.script.push(Step {
             call,
-            lengths: self.lent.lists,
-            room: self.lent.string,
+            lent: self.lent,
         })?;
         self.lines.push(Ok(()))?;
         Ok(())

@@ -1,3 +1,4 @@
+use crate::reply::say;
 use crate::said::read_line;
 use crate::session::{Line, Replayed, Session, reply};
 use crate::uncalled::Uncalled;
@@ -25,8 +26,7 @@ fn replies(lines: &[Line], answers: &[Answer], out: &mut String) -> Result<(), A
     let mut answers = answers.iter().copied();
     for line in lines {
         let answer = line.ok().and_then(|()| answers.next());
-        let reply = reply(*line, answer.unwrap_or(Ok(Outcome::Reopened)));
-        writeln!(out, "{reply}")?;
+        say(reply(*line, answer.unwrap_or(Ok(Outcome::Reopened))), out)?;
     }
     Ok(())
 }

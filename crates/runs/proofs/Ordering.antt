@@ -4,9 +4,10 @@ use Rattle.std.specs.List.{AllByRecursion}
 use Rattle.std.proofs.lemmas.Bool.{ne_eqb, cases_Bool, cases_eq, and_parts, ltb-true, ltb-false, not-true, not_from_false, both_ways}
 use Rattle.std.proofs.lemmas.List.{length_push}
 use Rattle.std.proofs.ByRecursion.{All-push}
+use Rattle.std.specs.Option.{option_or}
 use Rattle.hashing.specs.Triples.{Triple}
 use Rattle.runs.specs.Lists.{among}
-use Rattle.runs.specs.Order.{degree, joined, better, greatest, or_else, following, grown, order, Best, waits, waits_joined, Next}
+use Rattle.runs.specs.Order.{degree, joined, better, greatest, following, grown, order, Best, waits, waits_joined, Next}
 use Rattle.runs.proofs.Times.{one_le, one_false, times, Apart, times_append, times_not_among, among_times, each_once}
 
 some_same : (a b : ℕ) → Some a ≡ Some b → a ≡ b
@@ -129,13 +130,13 @@ module _ (m : ℕ) (weight : ℕ → ℕ) (next : List ℕ → Option ℕ)
       grown_all k (vs ++ v ∷ []) (next (vs ++ v ∷ [])) refl (lined_push m vs v h p.0 p.1) (omega (arith, length_push vs v)) u l d
 
 module _ (es : List Triple) (r : ℕ) where
-  or_else_some : (a b : Option ℕ) (v : ℕ) → or_else a b ≡ Some v → (a ≡ Some v) ⊎ ((a ≡ None) × (b ≡ Some v))
-  or_else_some None b v h = inr (refl, h)
-  or_else_some (Some u) b v h = inl h
+  either_some : (a b : Option ℕ) (v : ℕ) → option_or a b ≡ Some v → (a ≡ Some v) ⊎ ((a ≡ None) × (b ≡ Some v))
+  either_some None b v h = inr (refl, h)
+  either_some (Some u) b v h = inl h
 
-  or_else_none : (a b : Option ℕ) → or_else a b ≡ None → b ≡ None
-  or_else_none None b h = h
-  or_else_none (Some u) b h = absurd (some_none u h)
+  either_none : (a b : Option ℕ) → option_or a b ≡ None → b ≡ None
+  either_none None b h = h
+  either_none (Some u) b h = absurd (some_none u h)
 
   abbrev near : List ℕ → Option ℕ
   near vs = greatest (degree es) (waits_joined es vs) (2 * r) 0 None
@@ -144,15 +145,15 @@ module _ (es : List Triple) (r : ℕ) where
   far vs = greatest (degree es) (waits vs) (2 * r) 0 None
 
   pub next_from : (vs : List ℕ) (v : ℕ) → following es r vs ≡ Some v → Next es r vs v
-  next_from vs v h = elim (or_else_some (near vs) (far vs) v h) [
+  next_from vs v h = elim (either_some (near vs) (far vs) v h) [
     | inl e ↦ inl (best_found (degree es) (waits_joined es vs) (2 * r) v e)
     | inr e ↦ inr (none_found (degree es) (waits_joined es vs) (2 * r) e.0, best_found (degree es) (waits vs) (2 * r) v e.1)
   ]
 
   pub following_from : (vs : List ℕ) (v : ℕ) → Next es r vs v → following es r vs ≡ Some v
-  following_from vs v (inl b) = ap (λ o. or_else o (far vs)) (found_best (degree es) (waits_joined es vs) (2 * r) v b)
+  following_from vs v (inl b) = ap (λ o. option_or o (far vs)) (found_best (degree es) (waits_joined es vs) (2 * r) v b)
   following_from vs v (inr p) =
-      ap₂ or_else (found_none (degree es) (waits_joined es vs) (2 * r) p.0) (found_best (degree es) (waits vs) (2 * r) v p.1)
+      ap₂ option_or (found_none (degree es) (waits_joined es vs) (2 * r) p.0) (found_best (degree es) (waits vs) (2 * r) v p.1)
 
   pub next_waits : (vs : List ℕ) (v : ℕ) → Next es r vs v → (among v vs ≡ false) × (v < 2 * r)
   next_waits vs v (inl b) = (not-true (among v vs) (and_parts (not (among v vs)) (joined es vs v) b.passes).0, b.below)
@@ -162,7 +163,7 @@ module _ (es : List Triple) (r : ℕ) where
   following_some vs v h = next_waits vs v (next_from vs v h)
 
   following_none : (vs : List ℕ) → following es r vs ≡ None → (u : ℕ) → u < 2 * r → among u vs ≡ false → degree es u ≡ 0
-  following_none vs h u l n = none_found (degree es) (waits vs) (2 * r) (or_else_none (near vs) (far vs) h) u l (not_from_false (among u vs) n)
+  following_none vs h u l n = none_found (degree es) (waits vs) (2 * r) (either_none (near vs) (far vs) h) u l (not_from_false (among u vs) n)
 
   pub order_lined : Lined (2 * r) (order es r)
   order_lined = grown_lined (2 * r) (degree es) (following es r) following_some following_none (2 * r) [] (following es r []) refl (record { low = tt; apart = λ s. omega arith })

@@ -1,5 +1,5 @@
 -- What holds of every reckoned run, stage by stage.
-use Rattle.std.proofs.Common.{◌≡◌, ℕ, zero, suc, ◌*◌, ◌%◌, ◌<◌, ◌≤◌, Bool, true, false, cond, not, ◌&&◌, eqb, ltb, leb, List, [], ◌∷◌, ◌++◌, map, length, take, set, Some, None, Option, sym, refl, ap, ◌∙◌, subst, mod-lt, add-one, arith}
+use Rattle.std.proofs.Common.{◌≡◌, ℕ, zero, suc, ◌*◌, ◌%◌, ◌<◌, ◌≤◌, Bool, true, false, cond, not, ◌&&◌, eqb, ltb, leb, List, [], ◌∷◌, ◌++◌, map, length, take, set, is_some, Some, None, Option, sym, refl, ap, ◌∙◌, subst, mod-lt, add-one, arith}
 use Rattle.std.specs.List.{AllByRecursion}
 use Rattle.std.proofs.lemmas.Bool.{eqb-true, eqb-false, leb-true, ltb-true, not-true, and_parts, both_ways}
 use Rattle.std.proofs.lemmas.List.{length_push, length-map, map_push}
@@ -15,7 +15,7 @@ use Rattle.runs.specs.declared.fault.PressFault.TheVariants.{WrongStage, TooMany
 use Rattle.std.specs.Str.{bytes_eq}
 use Rattle.runs.specs.Lists.{has, repeats, Distinct}
 use Rattle.runs.specs.Fitting.{free}
-use Rattle.runs.specs.Runs.{Run, Call, enter, map_to, order_by, fit, reopen, seal, Lent, rank, is, same_triple, found, count, spellings, triples, graph, vertex_order, earlier, vertex, level_offsets, level_slots, fit_found, string_length, checks, refusal, with_level, accepted, unless_refused, step, beginning, continued, reckoned}
+use Rattle.runs.specs.Runs.{Run, Call, enter, map_to, order_by, fit, reopen, seal, Lent, rank, is, same_triple, count, spellings, triples, graph, vertex_order, earlier, vertex, level_offsets, level_slots, fit_found, string_length, checks, refusal, with_level, accepted, unless_refused, step, beginning, continued, reckoned}
 use Rattle.runs.specs.Laws.{Sound, no_triple}
 use Rattle.runs.proofs.Distinct.{same_refl, triple_refl, has_false, repeats_false, distinct_push}
 use Rattle.runs.proofs.Fits.{FirstStep, first_some}
@@ -150,7 +150,7 @@ module _ {N : Type 0} (spelling : N → List ℕ) where
   pub fit_passed : (m : Run N) (l : Lent) (w : Meaning) → refusal spelling m (fit l w) ≡ None → Fittable m w
   fit_passed m l w ok =
       let k = clear (checks spelling m (fit l w)) ok in
-      let e = some (fit_found spelling m w) (met (found (fit_found spelling m w)) (Unfit m.level) k.1.1.1.0) in
+      let e = some (fit_found spelling m w) (met (is_some (fit_found spelling m w)) (Unfit m.level) k.1.1.1.0) in
       record {
         stage = is_true m.stage Ordered (met (is m.stage Ordered) WrongStage k.0);
         sized = eqb-true w.size (count m) (met (eqb w.size (count m)) WaySize k.1.1.0);
@@ -159,7 +159,7 @@ module _ {N : Type 0} (spelling : N → List ℕ) where
         is_found = e.2;
       }
     where
-      some : (o : Option (ℕ × ℕ)) → found o ≡ true → (v : ℕ) × (t : ℕ) × (o ≡ Some (v, t))
+      some : (o : Option (ℕ × ℕ)) → is_some o ≡ true → (v : ℕ) × (t : ℕ) × (o ≡ Some (v, t))
       some None h = absurd (both_ways false refl h)
       some (Some (v, t)) h = (v, t, refl)
 

@@ -1,6 +1,7 @@
 -- The graph of a pressing, and the order of its vertices.
 -- Each name is an edge that joins the vertices h1 and h2 of its triple; the vertices are 0 to 2r - 1.
 use Rattle.std.specs.Prelude.{◌≡◌, ℕ, zero, suc, ◌+◌, ◌*◌, ◌<◌, ◌≤◌, Bool, true, false, cond, not, ◌&&◌, ◌||◌, ◌⊎◌, List, [], ◌∷◌, ◌++◌, length, take, Some, None, Option, ◌==◌, nat_lt, slice_index}
+use Rattle.std.specs.Option.{option_or}
 use Rattle.hashing.specs.Triples.{Triple}
 use Rattle.runs.specs.Lists.{among}
 
@@ -62,14 +63,10 @@ abbrev pub greatest : (ℕ → ℕ) → (ℕ → Bool) → ℕ → ℕ → Optio
 greatest weight ok zero v best = best
 greatest weight ok (suc k) v best = greatest weight ok k (suc v) (cond (ok v && better weight best v) (Some v) best)
 
-abbrev pub or_else : Option ℕ → Option ℕ → Option ℕ
-or_else None o = o
-or_else (Some v) o = Some v
-
 -- the vertex that comes after those in vs
 abbrev pub following : List Triple → ℕ → List ℕ → Option ℕ
 following es r vs =
-    or_else (greatest (degree es) (waits_joined es vs) (2 * r) 0 None) (greatest (degree es) (waits vs) (2 * r) 0 None)
+    option_or (greatest (degree es) (waits_joined es vs) (2 * r) 0 None) (greatest (degree es) (waits vs) (2 * r) 0 None)
 
 -- vertices one after the other as `next` says, k at most; o is the one that comes now
 abbrev pub grown : (List ℕ → Option ℕ) → ℕ → List ℕ → Option ℕ → List ℕ

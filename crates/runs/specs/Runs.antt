@@ -1,6 +1,6 @@
 -- A run: what a list of calls to one pressing comes to, reckoned from the calls' arguments alone.
 -- A pressing makes one plate of names of one kind, of which a run knows the spellings.
-use Rattle.std.specs.Prelude.{ℕ, suc, ◌+◌, ◌*◌, Bool, true, false, cond, not, ◌&&◌, List, [], ◌∷◌, ◌++◌, map, length, take, replicate, Some, None, Ok, Err, Option, ◌==◌, nat_le, nat_lt, slice_index, slice_set}
+use Rattle.std.specs.Prelude.{ℕ, suc, ◌+◌, ◌*◌, Bool, true, false, cond, not, ◌&&◌, List, [], ◌∷◌, ◌++◌, map, length, take, replicate, is_some, Some, None, Ok, Err, Option, ◌==◌, nat_le, nat_lt, slice_index, slice_set}
 use Rattle.refusals.specs.Checks.{unless, first}
 use Rattle.hashing.specs.Generator.{tables}
 use Rattle.hashing.specs.Triples.{Triple, triple}
@@ -67,10 +67,6 @@ is s t = rank s == rank t
 
 abbrev pub same_triple : Triple → Triple → Bool
 same_triple a b = a.h0 == b.h0 && (a.h1 == b.h1 && a.h2 == b.h2)
-
-abbrev pub found : Option (ℕ × ℕ) → Bool
-found None = false
-found (Some x) = true
 
 -- x if there is no fault, else what y makes of it
 abbrev pub unless_refused : {X : Type 0} → Option PressFault → X → (PressFault → X) → X
@@ -163,7 +159,7 @@ module _ {N : Type 0} (spelling : N → List ℕ) where
       unless (is m.stage Ordered) WrongStage ∷
       unless (ample l) ShortList ∷
       unless (w.size == count m) WaySize ∷
-      unless (found (fit_found m w)) (Unfit m.level) ∷
+      unless (is_some (fit_found m w)) (Unfit m.level) ∷
       []
   checks m reopen = unless (not (is m.stage Sealed)) WrongStage ∷ []
   checks m (seal l room) =

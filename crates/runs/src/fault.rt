@@ -5,7 +5,7 @@ use hashing::fault::HashFault;
 use std::fmt;
 
 /// Why a call to a pressing is refused.
-#[derive(Clone, Copy)]
+#[derive(Clone, Copy, PartialEq, Eq, Debug, Drop)]
 pub enum PressFault {
     /// The call does not belong to the stage.
     WrongStage,

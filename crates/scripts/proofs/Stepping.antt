@@ -1,5 +1,5 @@
 -- One step of a script over whole lists, and steps one after the other. Assumes nothing.
-use Rattle.std.proofs.Common.{◌≡◌, ℕ, zero, suc, ◌+◌, ◌-◌, ◌<◌, ◌≤◌, min, Bool, true, false, not, ◌&&◌, eqb, ltb, leb, ◌⊎◌, ◌↔◌, List, [], ◌∷◌, ◌++◌, length, get_or, take, drop, set, Some, None, Ok, Err, Option, sym, refl, ap, ◌∙◌, subst, inl, inr, arith}
+use Rattle.std.proofs.Common.{◌≡◌, ℕ, zero, suc, ◌+◌, ◌-◌, ◌<◌, ◌≤◌, min, Bool, true, false, not, ◌&&◌, eqb, ltb, leb, ◌⊎◌, ◌↔◌, List, [], ◌∷◌, ◌++◌, length, get_or, take, drop, set, is_some, Some, None, Ok, Err, Option, sym, refl, ap, ◌∙◌, subst, inl, inr, arith}
 use Rattle.std.specs.Str.{bytes_eq}
 use Rattle.std.proofs.lemmas.List.{take-append-le, take-append-drop, length-take, length-append, length-drop, map_more, take_more_set, take_all, get_or-take, take-map, length-map, get_or-map}
 use Rattle.std.proofs.lemmas.Bool.{cases_Bool}
@@ -12,7 +12,7 @@ use Rattle.runs.specs.declared.fault.PressFault.TheVariants.{WrongStage, ShortLi
 use Rattle.runs.specs.Answers.{Answer}
 use Rattle.runs.specs.declared.answer.Outcome.TheVariants as answered
 use Rattle.runs.specs.Lists.{has, repeats}
-use Rattle.runs.specs.Runs.{Lent, ample, Run, is, rank, count, spellings, triples, same_triple, found, fit_found, fit_answer, string_length, led_to, with_level, stage_after, vertex_order, refusal, unless_refused, accepted, step, continued, answer, answer_accepted, pressed, sealed_string}
+use Rattle.runs.specs.Runs.{Lent, ample, Run, is, rank, count, spellings, triples, same_triple, fit_found, fit_answer, string_length, led_to, with_level, stage_after, vertex_order, refusal, unless_refused, accepted, step, continued, answer, answer_accepted, pressed, sealed_string}
 use Rattle.runs.specs.Runs as run
 use Rattle.runs.specs.Laws.{Refuses, InTurn, EveryRotationBlocked, PlateOf}
 use Rattle.runs.proofs.Standing.{seal_passed, after_call, at}
@@ -48,7 +48,7 @@ module _ {N W : Type 0} (spelling : N → List ℕ) (meaning : W → Meaning) (m
       gated (run.map_to l r seed) (is m.stage Open)
       (unless (ltb 0 (count m)) NoName ∷ unless (leb 1 r && leb r 1024) VertexCount ∷ unless (leb 1 seed && leb seed 2147483646) Seed ∷ unless (not (repeats same_triple (triples spelling m.names r seed))) Clash ∷ []) refl
   short_held Order = gated (run.order_by l) (is m.stage Mapped) [] refl
-  short_held (Fit w) = gated (run.fit l (meaning w)) (is m.stage Ordered) (unless (eqb (meaning w).size (count m)) WaySize ∷ unless (found (fit_found spelling m (meaning w))) (Unfit m.level) ∷ []) refl
+  short_held (Fit w) = gated (run.fit l (meaning w)) (is m.stage Ordered) (unless (eqb (meaning w).size (count m)) WaySize ∷ unless (is_some (fit_found spelling m (meaning w))) (Unfit m.level) ∷ []) refl
   short_held Reopen = after_call spelling (λ n. Held spelling n whole) m run.reopen (λ f e. h) (λ e. held_open spelling (led_to Open m) refl whole h.names)
   short_held Seal = gated (run.seal l room) (is m.stage Fitted) (unless (leb (string_length m) room) ShortString ∷ []) refl
 
@@ -200,24 +200,24 @@ back_length : {X : Type 0} (k a : ℕ) (xs ys : List X) → k ≡ min a (length 
 back_length k a xs ys e h = length-append ys (drop k xs) ∙ omega (arith, h, length-drop k xs, length-take k xs, e)
 
 module _ {N W : Type 0} (spelling : N → List ℕ) (kind : ℕ) (meaning : W → Meaning) (s : Step N W) (n : Lent) (room : ℕ) (whole : Memory N) (string : List ℕ) {p p' : Pressing N} {a : Answer} {l' : Memory N} {string' : List ℕ}
-    (e₁ : n.rows ≡ min s.lengths.rows (length whole.rows)) (e₂ : n.tables ≡ min s.lengths.tables (length whole.tables)) (e₃ : n.edges ≡ min s.lengths.edges (length whole.edges))
-    (e₄ : n.vertices ≡ min s.lengths.vertices (length whole.vertices)) (e₅ : n.heap ≡ min s.lengths.heap (length whole.heap)) (e₆ : n.ordered ≡ min s.lengths.ordered (length whole.ordered))
-    (e₇ : n.slots ≡ min s.lengths.slots (length whole.slots)) (e₈ : room ≡ min s.room (length string))
+    (e₁ : n.rows ≡ min s.lent.lists.rows (length whole.rows)) (e₂ : n.tables ≡ min s.lent.lists.tables (length whole.tables)) (e₃ : n.edges ≡ min s.lent.lists.edges (length whole.edges))
+    (e₄ : n.vertices ≡ min s.lent.lists.vertices (length whole.vertices)) (e₅ : n.heap ≡ min s.lent.lists.heap (length whole.heap)) (e₆ : n.ordered ≡ min s.lent.lists.ordered (length whole.ordered))
+    (e₇ : n.slots ≡ min s.lent.lists.slots (length whole.slots)) (e₈ : room ≡ min s.lent.string (length string))
     (d : Performed spelling kind meaning s.call p (first_of n whole) (take room string) a p' l' string') where
-  lent_is : lent (first_of n whole) ≡ lent_of (lent whole) s.lengths
+  lent_is : lent (first_of n whole) ≡ lent_of (lent whole) s.lent.lists
   lent_is = λ i. record {
-    rows = cut_length n.rows s.lengths.rows whole.rows e₁ i;
-    tables = cut_length n.tables s.lengths.tables whole.tables e₂ i;
-    edges = cut_length n.edges s.lengths.edges whole.edges e₃ i;
-    vertices = cut_length n.vertices s.lengths.vertices whole.vertices e₄ i;
-    heap = cut_length n.heap s.lengths.heap whole.heap e₅ i;
-    ordered = cut_length n.ordered s.lengths.ordered whole.ordered e₆ i;
-    slots = cut_length n.slots s.lengths.slots whole.slots e₇ i;
+    rows = cut_length n.rows s.lent.lists.rows whole.rows e₁ i;
+    tables = cut_length n.tables s.lent.lists.tables whole.tables e₂ i;
+    edges = cut_length n.edges s.lent.lists.edges whole.edges e₃ i;
+    vertices = cut_length n.vertices s.lent.lists.vertices whole.vertices e₄ i;
+    heap = cut_length n.heap s.lent.lists.heap whole.heap e₅ i;
+    ordered = cut_length n.ordered s.lent.lists.ordered whole.ordered e₆ i;
+    slots = cut_length n.slots s.lent.lists.slots whole.slots e₇ i;
   }
 
   same_call : as_call meaning (lent (first_of n whole)) (length (take room string)) s.call ≡ as_step meaning (lent whole) (length string) s
   same_call =
-      let r = cut_length room s.room string e₈ in
+      let r = cut_length room s.lent.string string e₈ in
       λ i. as_call meaning (lent_is i) (r i) s.call
 
   pub step_taken : StepTaken spelling kind meaning s p whole string a p' (put_back n whole l') (string' ++ drop room string)
@@ -227,15 +227,15 @@ module _ {N W : Type 0} (spelling : N → List ℕ) (kind : ℕ) (meaning : W �
       subst (λ c. Holds spelling kind (step spelling m c) p' (put_back n whole l') (string' ++ drop room string)) same_call (one_step spelling kind meaning s.call n room whole string d m h),
     );
     long = λ i. record {
-      rows = back_length n.rows s.lengths.rows whole.rows l'.rows e₁ (ap (λ x. x.rows) d.long) i;
-      tables = back_length n.tables s.lengths.tables whole.tables l'.tables e₂ (ap (λ x. x.tables) d.long) i;
-      edges = back_length n.edges s.lengths.edges whole.edges l'.edges e₃ (ap (λ x. x.edges) d.long) i;
-      vertices = back_length n.vertices s.lengths.vertices whole.vertices l'.vertices e₄ (ap (λ x. x.vertices) d.long) i;
-      heap = back_length n.heap s.lengths.heap whole.heap l'.heap e₅ (ap (λ x. x.heap) d.long) i;
-      ordered = back_length n.ordered s.lengths.ordered whole.ordered l'.ordered e₆ (ap (λ x. x.ordered) d.long) i;
-      slots = back_length n.slots s.lengths.slots whole.slots l'.slots e₇ (ap (λ x. x.slots) d.long) i;
+      rows = back_length n.rows s.lent.lists.rows whole.rows l'.rows e₁ (ap (λ x. x.rows) d.long) i;
+      tables = back_length n.tables s.lent.lists.tables whole.tables l'.tables e₂ (ap (λ x. x.tables) d.long) i;
+      edges = back_length n.edges s.lent.lists.edges whole.edges l'.edges e₃ (ap (λ x. x.edges) d.long) i;
+      vertices = back_length n.vertices s.lent.lists.vertices whole.vertices l'.vertices e₄ (ap (λ x. x.vertices) d.long) i;
+      heap = back_length n.heap s.lent.lists.heap whole.heap l'.heap e₅ (ap (λ x. x.heap) d.long) i;
+      ordered = back_length n.ordered s.lent.lists.ordered whole.ordered l'.ordered e₆ (ap (λ x. x.ordered) d.long) i;
+      slots = back_length n.slots s.lent.lists.slots whole.slots l'.slots e₇ (ap (λ x. x.slots) d.long) i;
     };
-    string_long = back_length room s.room string string' e₈ d.written.long;
+    string_long = back_length room s.lent.string string string' e₈ d.written.long;
   }
 
 -- 5. steps one after the other
@@ -295,19 +295,19 @@ module _ {N : Type 0} (spelling : N → List ℕ) where
 module _ {N W : Type 0} (spelling : N → List ℕ) (meaning : W → Meaning) (laws : (w : W) → Permutes (meaning w)) (whole : Lent) (room : ℕ) (script : List (Step N W)) (m : Run N) (answers : List Answer)
     (e : take (length script) answers ≡ run.answers spelling m (as_calls meaning whole room script)) where
   pub unfit_in_turn : (i : ℕ) (s : Step N W) (w : W) → i < length script → get_or script i s ≡ s → s.call ≡ Fit w →
-      InTurn spelling (before meaning whole room script spelling m i) (lent_of whole s.lengths) (meaning w) →
+      InTurn spelling (before meaning whole room script spelling m i) (lent_of whole s.lent.lists) (meaning w) →
       Refuses (get_or answers i (Ok answered.Entered)) 19 (Some (before meaning whole room script spelling m i).level) ↔ EveryRotationBlocked spelling (before meaning whole room script spelling m i)
   unfit_in_turn i s w at is call turn =
       let cs = as_calls meaning whole room script in
-      let c : get_or cs i (as_step meaning whole room s) ≡ run.fit (lent_of whole s.lengths) (meaning w) =
-      get_or-map (as_step meaning whole room) script i s (as_step meaning whole room s) at ∙ ap (as_step meaning whole room) is ∙ ap (as_call meaning (lent_of whole s.lengths) (min s.room room)) call in
-      let same : get_or answers i (Ok answered.Entered) ≡ answer spelling (before meaning whole room script spelling m i) (run.fit (lent_of whole s.lengths) (meaning w)) =
+      let c : get_or cs i (as_step meaning whole room s) ≡ run.fit (lent_of whole s.lent.lists) (meaning w) =
+      get_or-map (as_step meaning whole room) script i s (as_step meaning whole room s) at ∙ ap (as_step meaning whole room) is ∙ ap (as_call meaning (lent_of whole s.lent.lists) (min s.lent.string room)) call in
+      let same : get_or answers i (Ok answered.Entered) ≡ answer spelling (before meaning whole room script spelling m i) (run.fit (lent_of whole s.lent.lists) (meaning w)) =
       sym (get_or-take (length script) answers i (Ok answered.Entered) at)
       ∙ ap (λ (xs : List Answer). get_or xs i (Ok answered.Entered)) e
       ∙ answer_at spelling m cs i (as_step meaning whole room s) (Ok answered.Entered) (omega (arith, length-map script (as_step meaning whole room)))
       ∙ (λ j. answer spelling (continued spelling m (take-map (as_step meaning whole room) i script j)) (c j)) in
       subst (λ a. Refuses a 19 (Some (before meaning whole room script spelling m i).level) ↔ EveryRotationBlocked spelling (before meaning whole room script spelling m i)) (sym same)
-      (unfit_exactly spelling (before meaning whole room script spelling m i) (lent_of whole s.lengths) (meaning w) (laws w) turn)
+      (unfit_exactly spelling (before meaning whole room script spelling m i) (lent_of whole s.lent.lists) (meaning w) (laws w) turn)
 
 -- 7. a whole script
 

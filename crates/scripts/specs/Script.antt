@@ -47,7 +47,7 @@ lent_of whole a = record { rows = min a.rows whole.rows; tables = min a.tables w
 -- a step as a run has it, and a script
 module _ {N W : Type 0} (meaning : W → Meaning) (whole : Lent) (room : ℕ) where
   abbrev pub as_step : Step N W → run.Call N
-  as_step s = as_call meaning (lent_of whole s.lengths) (min s.room room) s.call
+  as_step s = as_call meaning (lent_of whole s.lent.lists) (min s.lent.string room) s.call
 
   abbrev pub as_calls : List (Step N W) → List (run.Call N)
   as_calls script = map as_step script
@@ -86,7 +86,7 @@ pub record Replayed {N W : Type 0} (spelling : N → List ℕ) (kind : ℕ) (mea
   pub answers_past : drop (length script) answers' ≡ drop (length script) answers
   -- a level asked for in its turn by a way of the right size is answered as unfit exactly if every rotation is blocked
   pub unfit_exactly : (m : Run N) → Holds spelling kind m p l string → (i : ℕ) (s : Step N W) (w : W) → i < length script → slice_index_or script i s ≡ s → s.call ≡ Fit w →
-      InTurn spelling (before meaning (lent l) (length string) script spelling m i) (lent_of (lent l) s.lengths) (meaning w) →
+      InTurn spelling (before meaning (lent l) (length string) script spelling m i) (lent_of (lent l) s.lent.lists) (meaning w) →
       Refuses (slice_index_or answers' i (Ok answered.Entered)) 19 (Some (before meaning (lent l) (length string) script spelling m i).level) ↔ EveryRotationBlocked spelling (before meaning (lent l) (length string) script spelling m i)
   -- and a sealed string is that of the run's plate, which is lawful and holds exactly the names entered
   pub sealed_soundly : (m : Run N) → Holds spelling kind m p l string → (continued spelling m (as_calls meaning (lent l) (length string) script)).stage ≡ Sealed →

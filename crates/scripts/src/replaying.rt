@@ -41,13 +41,13 @@ fn perform<N: Kind, W: Way>(
             entered.map(|_| Outcome::Entered)
         }
         Call::Map(r, seed) => pressing.map(lists, *r, *seed).map(|_| Outcome::Mapped),
-        Call::Order => pressing.order(lists).map(|levels| Outcome::Ordered(levels)),
+        Call::Order => pressing.order(lists).map(Outcome::Ordered),
         Call::Fit(way) => {
             let found = pressing.fit(lists, way);
             found.map(|fit| Outcome::Fitted(fit.rotation, fit.tries))
         }
         Call::Reopen => pressing.reopen().map(|_| Outcome::Reopened),
-        Call::Seal => pressing.seal(lists, string).map(|len| Outcome::Sealed(len)),
+        Call::Seal => pressing.seal(lists, string).map(Outcome::Sealed),
     }
 }
 
@@ -66,7 +66,7 @@ fn take_step<N: Kind, W: Way>(
 ) -> Answer
     ensures { StepTaken N.spelling N.number W.meaning step.now pressing.old (memory rows.old tables.old edges.old vertices.old heap.old ordered.old slots.old) string.old result pressing.new (memory rows.new tables.new edges.new vertices.new heap.new ordered.new slots.new) string.new }
 {
-    let lengths = step.lengths;
+    let lengths = step.lent.lists;
     let row_count = lengths.rows.min(rows.len());
     let table_count = lengths.tables.min(tables.len());
     let edge_count = lengths.edges.min(edges.len());
@@ -74,7 +74,7 @@ fn take_step<N: Kind, W: Way>(
     let heap_count = lengths.heap.min(heap.len());
     let ordered_count = lengths.ordered.min(ordered.len());
     let slot_count = lengths.slots.min(slots.len());
-    let room = step.room.min(string.len());
+    let room = step.lent.string.min(string.len());
     perform(
         pressing,
         &step.call,

@@ -14,11 +14,17 @@ pub enum Call<N, W> {
     Seal,
 }
 
-/// A call, and how much it is lent: of each work list and of the string memory a first part of this
-/// length, or the whole where there is less.
+/// How much a call is lent: of each work list and of the string memory a first part of this length, or
+/// the whole where there is less.
+#[derive(Clone, Copy, Drop)]
+pub struct Lent {
+    pub lists: Lengths,
+    pub string: usize,
+}
+
+/// A call, and how much it is lent.
 #[derive(Drop)]
 pub struct Step<N, W> {
     pub call: Call<N, W>,
-    pub lengths: Lengths,
-    pub room: usize,
+    pub lent: Lent,
 }

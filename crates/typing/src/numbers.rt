@@ -1,5 +1,5 @@
-ghost use Rattle.std.specs.Prelude.{◌≡◌, ◌<◌, Some, IfSome, min, if◌then◌else◌, nat_lt};
-ghost use Rattle.typing.specs.Numbers.{Writes, written_number};
+ghost use Rattle.std.specs.Prelude.{◌≡◌, ℕ, ◌<◌, Option, None, Some, IfSome, min, if◌then◌else◌, nat_lt};
+ghost use Rattle.typing.specs.Numbers.{Writes, written_number, read_as};
 
 use std::num::IntErrorKind;
 
@@ -17,11 +17,14 @@ pub fn number(word: &str) -> Option<u64>
     }
 }
 
-/// A way of reading numbers, which reads each number below the largest of 64 bits, and nothing else as one.
+/// A way of reading numbers: it reads each number of 64 bits, and nothing else as one.
 pub trait Reading {
+    /// What a number of more than 64 bits is read as.
+    ghost beyond: { Option ℕ };
+
     /// The number that a word writes, if it is read.
     fn number(word: &str) -> Option<u64>
-        ensures read { Writes word.now → written_number word.now < 18446744073709551615 → result ≡ Some (written_number word.now) }
+        ensures read { Writes word.now → result ≡ read_as beyond (written_number word.now) }
         ensures only { IfSome result (λ x. x < 18446744073709551615 → Writes word.now × (x ≡ written_number word.now)) };
 }
 
@@ -29,6 +32,8 @@ pub trait Reading {
 pub struct Capped;
 
 impl Reading for Capped {
+    ghost beyond = { Some 18446744073709551615 };
+
     fn number(word: &str) -> Option<u64> {
         number(word)
     }
@@ -38,6 +43,8 @@ impl Reading for Capped {
 pub struct Whole;
 
 impl Reading for Whole {
+    ghost beyond = { None };
+
     fn number(word: &str) -> Option<u64> {
         word.parse::<u64>().ok()
     }
