@@ -1,5 +1,5 @@
 -- A script that was performed from the beginning, over full lists.
-use Rattle.std.proofs.Common.{◌≡◌, ℕ, List, length, take, Option, Some, None, MatchOption, sym, ap, subst, ◌∙◌, arith}
+use Rattle.std.proofs.Common.{◌≡◌, ℕ, List, length, take, Option, Some, None, IsSome, MatchOption, sym, refl, ap, subst, ◌∙◌, arith}
 use Rattle.std.proofs.Math.Seq.{take-length}
 use Rattle.ways.specs.Permutation.{Meaning}
 use Rattle.runs.specs.Answers.{Answer}
@@ -21,6 +21,12 @@ full_lent l a b c d e f g = λ k. record { rows = a k; tables = b k; edges = c k
 module _ {N W : Type 0} (spelling : N → List ℕ) (kind : ℕ) (meaning : W → Meaning) (script : List (Step N W)) (p p' : Pressing N) (l l' : Memory N) (s s' : List ℕ) (xs ys : List Answer) where
   fresh : Left spelling beginning p l → Holds spelling kind beginning p l s
   fresh left = record { left = left; string_left = λ e. absurd (let o : ◌≡◌ {A = Stage} Open Sealed = e in cc) }
+
+  -- with a place for each call, it is performed
+  pub was_performed : (r : Option (Unit {0})) → length xs ≡ length script →
+      MatchOption r (NotReplayed script p l s xs p' l' s' ys) (λ _. Replayed spelling kind meaning script p l s xs p' l' s' ys) → IsSome r
+  was_performed None few n = absurd (omega (arith, n.few))
+  was_performed (Some u) few d = refl
 
   -- with a place for each call, each answer is the run's, and the memory holds its string
   pub performed : (r : Option (Unit {0})) → length xs ≡ length script → length ys ≡ length xs → Left spelling beginning p l → lent l ≡ full →
