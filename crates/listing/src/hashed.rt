@@ -1,3 +1,6 @@
+ghost use Rattle.std.specs.Prelude.{length, IfOk, MatchOption};
+ghost use Rattle.listing.specs.Clashes.{AreApart, IsFirstClash};
+
 use graph::rows::Row;
 use hashing::seed::Seed;
 use hashing::sizes::Sizes;
@@ -52,9 +55,12 @@ impl<N: Typed> Hashed<N> {
 
 impl<N> Hashed<N> {
     /// The numbers, from 1, of the first two names with one triple.
-    pub fn clash(&self) -> Result<Option<(usize, usize)>, AllocError> {
+    pub fn clash(&self) -> Result<Option<(usize, usize)>, AllocError>
+        ensures { IfOk result (λ clash. MatchOption clash (AreApart (length self.now.triples.items) self.now.triples.items) (λ pair. IsFirstClash self.now.triples.items pair.0 pair.1)) }
+    {
         let mut numbers = BTreeMap::new(*self.triples.allocator());
-        for (number, triple) in (1usize..).zip(&self.triples) {
+        for (at, triple) in self.triples.iter().enumerate() {
+            let number = at + 1;
             if let Some(earlier) = numbers.insert(*triple, number)? {
                 return Ok(Some((earlier, number)));
             }
