@@ -46,8 +46,8 @@ fn attach_edge(edges: &mut [Edge], vertices: &mut [Vertex], i: usize, triple: (u
 {
     let (h0, h1, h2) = triple;
     let upto = (i + 1) as u16;
-    let next1 = attach(vertices, h1 as usize, upto);
-    let next2 = attach(vertices, h2 as usize, upto);
+    let next1 = attach(vertices, usize::from(h1), upto);
+    let next2 = attach(vertices, usize::from(h2), upto);
     edges[i] = Edge {
         h0,
         h1,
@@ -89,7 +89,7 @@ pub fn map_names<N: Kind>(
 ) -> Option<()>
     ensures { MatchOption result (MapRefused (map_fits count sizes.r (length rows.now) (length tables.now) (length edges.old) (length vertices.old)) edges.old edges.new vertices.old vertices.new) (λ _. MapWritten (map_fits count sizes.r (length rows.now) (length tables.now) (length edges.old) (length vertices.old)) (row_triples N.spelling tables.now sizes.n sizes.r (take count rows.now)) count sizes.r edges.old edges.new vertices.old vertices.new) }
 {
-    let r = sizes.r() as usize;
+    let r = usize::from(sizes.r());
     if !fits(count, r, rows, tables, edges, vertices) {
         return None;
     }

@@ -33,7 +33,7 @@ impl<'a> Iterator for Chain<'a> {
     ghost remaining = { item_count (λ s. walk s.low s.edges.now s.at) };
 
     fn next(&mut self) -> Option<(usize, Edge)> {
-        let row = (self.at as usize).checked_sub(1)?;
+        let row = usize::from(self.at).checked_sub(1)?;
         let e = *self.edges.get(row)?;
         self.edges = &self.edges[0..row];
         self.at = e.onward(self.low);

@@ -24,12 +24,11 @@ fn is_repeated(edges: &[Edge], i: usize) -> bool
     ))
 }
 
-// Whether two of the first n edges have equal triples.
-fn any_repeated(edges: &[Edge], n: usize) -> bool
-    requires { n ≤ length edges.now }
-    ensures { (es : List Triple) → length es ≡ n → Edges es edges.now → result ≡ clashes es }
+// Whether two of the edges have equal triples.
+fn any_repeated(edges: &[Edge]) -> bool
+    ensures { (es : List Triple) → length es ≡ length edges.now → Edges es edges.now → result ≡ clashes es }
 {
-    (0..n).any(|i| is_repeated(edges, i))
+    (0..edges.len()).any(|i| is_repeated(edges, i))
 }
 
 /// Whether two of the first n edges have equal triples, which is a clash. None exactly if there are
@@ -40,5 +39,5 @@ pub fn clash(edges: &[Edge], n: usize) -> Option<bool>
     if n > edges.len() {
         return None;
     }
-    Some(any_repeated(edges, n))
+    Some(any_repeated(&edges[0..n]))
 }

@@ -8,8 +8,8 @@ use Rattle.graph.proofs.build.map_names.Goals as goal
 pub attach_edge-requires : goal.attach_edge-requires
 attach_edge-requires g c =
     let l = c.loop-i in
-    let e = c.r-r.ensures in
-    let fit = fitted c.args.count c.r-r.result (length c.args.rows.now) (length c.args.tables.now) (length c.args.edges.now) (length c.args.vertices.now) (sym c.if-not-fits.ensures) in
+    let e = c.from-r.ensures ∙ c.r.ensures in
+    let fit = fitted c.args.count c.from-r.result (length c.args.rows.now) (length c.args.tables.now) (length c.args.edges.now) (length c.args.vertices.now) (sym c.if-not-fits.ensures) in
     let at = taken_at c.args.rows.now (c.args.count - 0) l.i c.row-item.result c.loop-i-test.true c.row-item.is in
     let w = turn g.N.Kind.spelling g.met.N.Kind.spelling_from_1 g.met.N.Kind.spelling_to_16 c.args.tables.now c.args.sizes.n c.args.sizes.r c.args.rows.now l.i c.row-item.result c.in_ok-triple.triple fit.tables_there (at.1, at.2) c.in_ok-triple.ensures c.args.sizes.r_from_1 l.edges l.vertices l.invariant.0 in
     record {
@@ -20,8 +20,8 @@ attach_edge-requires g c =
 pub loop-i-preserved : goal.loop-i-preserved
 loop-i-preserved g c =
     let l = c.loop-i in
-    let e = c.r-r.ensures in
-    let fit = fitted c.args.count c.r-r.result (length c.args.rows.now) (length c.args.tables.now) (length c.args.edges.now) (length c.args.vertices.now) (sym c.if-not-fits.ensures) in
+    let e = c.from-r.ensures ∙ c.r.ensures in
+    let fit = fitted c.args.count c.from-r.result (length c.args.rows.now) (length c.args.tables.now) (length c.args.edges.now) (length c.args.vertices.now) (sym c.if-not-fits.ensures) in
     let at = taken_at c.args.rows.now (c.args.count - 0) l.i c.row-item.result c.loop-i-test.true c.row-item.is in
     let w = turn g.N.Kind.spelling g.met.N.Kind.spelling_from_1 g.met.N.Kind.spelling_to_16 c.args.tables.now c.args.sizes.n c.args.sizes.r c.args.rows.now l.i c.row-item.result c.in_ok-triple.triple fit.tables_there (at.1, at.2) c.in_ok-triple.ensures c.args.sizes.r_from_1 l.edges l.vertices l.invariant.0 in
     let a = c.attach_edge.ensures in (
@@ -33,7 +33,7 @@ loop-i-preserved g c =
 pub returns : goal.returns
 returns g c =
     let l = c.loop-i in
-    let e = c.r-r.ensures in
+    let e = c.from-r.ensures ∙ c.r.ensures in
     let ei : l.i ≡ c.args.count = omega arith in
     record {
       long = ap (λ r. map_fits c.args.count r (length c.args.rows.now) (length c.args.tables.now) (length c.args.edges.now) (length c.args.vertices.now)) (sym e) ∙ sym c.if-not-fits.ensures;

@@ -1,4 +1,4 @@
-use Rattle.std.proofs.Common.{◌≡◌, ◌-◌, true, false, refl, arith, rules, tests}
+use Rattle.std.proofs.Common.{◌≡◌, ◌-◌, true, false, length, refl, arith, rules, tests}
 use Rattle.std.proofs.lemmas.Iterator.{cases_from_any, YieldsList-from_range}
 use Rattle.graph.proofs.Clashing.{Told, clashes_is}
 use Rattle.graph.proofs.clash.any_repeated.Goals as goal
@@ -6,7 +6,7 @@ use Rattle.graph.proofs.clash.any_repeated.Goals as goal
 pub returns : goal.returns
 returns c =
     let edges = c.args.edges.now in
-    let n = c.args.n in
+    let n = length edges in
     let z : n - 0 ≡ n = omega arith in
     let all = YieldsList-from_range 0 n n refl z in
     λ es long h. clashes_is edges es n long h c.any.result
