@@ -81,6 +81,3 @@ module _ (n : ℕ) (rotation : ℕ → ℕ) (filled bs : List ℕ) where
   pub stop : (j : ℕ) {o : Option (ℕ × ℕ)} → j < n → free filled (turned n (rotation j) bs) ≡ true → first_fit n rotation filled bs (n - j) j ≡ o → Some (rotation j, j + 1) ≡ o
   stop j {o} h f inv =
       sym (here (n - j) j (omega arith) ∙ ap (λ b. cond b (Some (rotation j, j + 1)) (first_fit n rotation filled bs (n - j - 1) (j + 1))) f) ∙ inv
-
-  pub run_out : (j : ℕ) {o : Option (ℕ × ℕ)} → n ≤ j → first_fit n rotation filled bs (n - j) j ≡ o → None ≡ o
-  run_out j {o} h inv = let e : n - j ≡ 0 = omega arith in sym (ap (λ k. first_fit n rotation filled bs k j) e) ∙ inv

@@ -13,7 +13,7 @@ fn are_apart(level: &[LevelName], n: usize) -> bool
 {
     let mut marks = [false; 1024];
     for name in level {
-        let slot = name.offset as usize % n;
+        let slot = usize::from(name.offset) % n;
         if marks[slot] {
             return false;
         }
@@ -41,13 +41,13 @@ pub fn first_that_fits<W: Way>(
     }
     let mut step: u16 = 0;
     let (v, tries) = 'trying: loop {
-        if step as usize >= n {
+        if usize::from(step) >= n {
             return None;
         }
-        let v = way.rotation(number, step as usize);
+        let v = way.rotation(number, usize::from(step));
         step += 1;
         'placing: for name in level {
-            if slots[(name.offset as usize + v as usize) % n].is_some() {
+            if slots[(usize::from(name.offset) + usize::from(v)) % n].is_some() {
                 continue 'trying;
             }
         }
@@ -66,7 +66,7 @@ pub fn fill(level: &[LevelName], rotation: u16, slots: &mut [Option<u16>])
         return;
     }
     for name in level {
-        slots[(name.offset as usize + rotation as usize) % n] = Some(name.row);
+        slots[(usize::from(name.offset) + usize::from(rotation)) % n] = Some(name.row);
     }
 }
 

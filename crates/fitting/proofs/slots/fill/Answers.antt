@@ -14,7 +14,7 @@ returns-then-n-eq0 c =
     }
 
 pub loop-name-preserved : goal.loop-name-preserved
-loop-name-preserved c = placed_on c.args.rotation _ c.args.level.now c.loop-name.name-index c.loop-name.slots _ (omega arith) (omega arith) c.loop-name.invariant
+loop-name-preserved c = rw (c.from.ensures, c.from-in-loop-name.ensures) (placed_on c.args.rotation _ c.args.level.now c.loop-name.name-index c.loop-name.slots _ (omega arith) (omega arith) c.loop-name.invariant)
 
 pub returns : goal.returns
 returns c =

@@ -29,8 +29,8 @@ returns-then-not-are_apart g c =
     }
 
 -- the slot of the name at a place, as the code reads it
-slot_read : (level : List LevelName) (slots : List (Option ℕ)) (n v k : ℕ) {t : Bool} → t ≡ is_some (get_or slots (((get_or level k no_name).offset + v) % n) None) → is_some (get_or slots ((get_or (offsets level) k 0 + v) % n) None) ≡ t
-slot_read level slots n v k e = ap (λ b. is_some (get_or slots ((b + v) % n) None)) (offset_at level k) ∙ sym e
+slot_read : (level : List LevelName) (slots : List (Option ℕ)) (n v k x y : ℕ) {t : Bool} → x ≡ (get_or level k no_name).offset → y ≡ v → t ≡ is_some (get_or slots ((x + y) % n) None) → is_some (get_or slots ((get_or (offsets level) k 0 + v) % n) None) ≡ t
+slot_read level slots n v k x y a b e = (λ i. is_some (get_or slots (((offset_at level k ∙ sym a) i + sym b i) % n) None)) ∙ sym e
 
 pub trying-preserved : goal.trying-preserved
 trying-preserved g c =
@@ -44,13 +44,13 @@ trying-preserved g c =
     let some : 1 ≤ n = omega arith in (
       omega arith,
       λ filled are. go_on n (asked w c.args.number) filled bs c.trying.step (omega arith)
-          (ap (λ x. free filled (turned n x bs)) (sym c.rotation-v.ensures) ∙ taken_blocked n bs filled c.args.slots.now refl some are v k in_k (slot_read level c.args.slots.now n v k c.if-is_some.ensures))
+          (ap (λ x. free filled (turned n x bs)) (sym (c.rotation-v.ensures ∙ ap (asked w c.args.number) c.from-in-trying-2.ensures)) ∙ taken_blocked n bs filled c.args.slots.now refl some are v k in_k (slot_read level c.args.slots.now n v k _ _ c.from-in-placing.ensures c.from-in-placing-2.ensures c.if-is_some.ensures))
           (c.trying.invariant.1 filled are),
     )
 
 pub placing-preserved : goal.placing-preserved
 placing-preserved g c =
-    below_more _ _ c.placing.invariant (slot_read c.args.level.now c.args.slots.now (length c.args.slots.now) c.rotation-v.result c.placing.name-index c.if-is_some.ensures)
+    below_more _ _ c.placing.invariant (slot_read c.args.level.now c.args.slots.now (length c.args.slots.now) c.rotation-v.result c.placing.name-index _ _ c.from-in-placing.ensures c.from-in-placing-2.ensures c.if-is_some.ensures)
 
 pub returns : goal.returns
 returns g c =
@@ -62,7 +62,7 @@ returns g c =
     let step = c.trying.step in
     let some : 1 ≤ n = omega arith in
     let apart : Apart n bs = c.if-not-are_apart.ensures.yes refl in
-    let is = c.rotation-v.ensures in
+    let is = c.rotation-v.ensures ∙ ap (asked w c.args.number) c.from-in-trying-2.ensures in
     record {
       other_size = λ no_size. absurd (no_size (sym c.size.ensures ∙ sym c.from.ensures ∙ c.if-from-n.false));
       first = λ e filled are.
