@@ -17,6 +17,14 @@ use Rattle.graph.specs.Chains.{row, Graph}
 abbrev pub SameRoom : MutBor (List Waiting) → MutBor (List Waiting) → Type 0
 SameRoom old new = SameLoan old new × (length new.now ≡ length old.now)
 
+-- the vertices 0 to 2r - 1 are there, and are not too many
+abbrev pub HasSides : ℕ → List Vertex → Type 0
+HasSides r vertices = (2 * r ≤ length vertices) × (r ≤ 1024)
+
+-- each vertex has a number of 16 bits
+abbrev pub Numbered : List Vertex → Type 0
+Numbered vertices = length vertices ≤ 65536
+
 abbrev pub is_unseen : Place → Bool
 is_unseen Unseen = true
 is_unseen Waits = false

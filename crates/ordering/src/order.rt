@@ -1,7 +1,7 @@
 ghost use Rattle.std.specs.Prelude.{◌≡◌, ℕ, ◌*◌, ◌<◌, ◌≤◌, List, length, drop, MatchOption};
 ghost use Rattle.hashing.specs.Triples.{Triple};
 ghost use Rattle.graph.specs.Chains.{Graph};
-ghost use Rattle.ordering.specs.Queue.{Begun, OrderedGraph, order_fits, OrderRefused, OrderWritten};
+ghost use Rattle.ordering.specs.Queue.{HasSides, Begun, OrderedGraph, order_fits, OrderRefused, OrderWritten};
 
 use super::queue::{choose, gather, reset};
 use graph::rows::{Edge, Place, Vertex};
@@ -17,7 +17,7 @@ fn arrange(
     room: &mut [Waiting],
     ordered: &mut [u16],
 ) -> usize
-    requires { (2 * r ≤ length vertices.old) × (r ≤ 1024) × (length room.old ≡ 2 * r) × (2 * r ≤ length ordered.old) }
+    requires { HasSides r vertices.old × (length room.old ≡ 2 * r) × (2 * r ≤ length ordered.old) }
     ensures low { result ≤ 2 * r }
     ensures begun { Begun (2 * r) vertices.old vertices.new }
     ensures rest { drop result ordered.new ≡ drop result ordered.old }

@@ -3,7 +3,7 @@ ghost use Rattle.std.specs.Prelude.{◌≡◌, ℕ, ◌+◌, ◌*◌, ◌<◌, �
 ghost use Rattle.hashing.specs.Triples.{Triple};
 ghost use Rattle.runs.specs.Order.{degree, joined};
 ghost use Rattle.graph.specs.Chains.{row, Graph};
-ghost use Rattle.ordering.specs.Queue.{is_unseen, Queued, Replaced, Weighed, Greatest, degree_at, unseen_at, Led, Bounded, Resumed, Chosen, Low, fresh, SameRoom};
+ghost use Rattle.ordering.specs.Queue.{is_unseen, Queued, Replaced, Weighed, Greatest, degree_at, unseen_at, Led, Bounded, Resumed, Chosen, Low, fresh, SameRoom, HasSides, Numbered};
 
 use graph::chain::Chain;
 use graph::rows::{Edge, Place, Vertex};
@@ -31,7 +31,7 @@ pub(crate) fn reset(vertices: &mut [Vertex], m: usize)
 
 // Of the unseen vertices the one of greatest degree, above 0.
 fn greatest(vertices: &[Vertex]) -> Option<u16>
-    requires { length vertices.now ≤ 65536 }
+    requires { Numbered vertices.now }
     ensures { Greatest (degree_at vertices.now) (unseen_at vertices.now) (length vertices.now) result }
 {
     let mut best = None;
@@ -47,10 +47,10 @@ fn greatest(vertices: &[Vertex]) -> Option<u16>
 
 // The same, if it has the degree of b, where no unseen vertex comes before b; the search begins at b.
 fn resume(vertices: &[Vertex], b: u16) -> Option<u16>
-    requires { (length vertices.now ≤ 65536) × Led (length vertices.now) vertices.now b }
+    requires { Numbered vertices.now × Led (length vertices.now) vertices.now b }
     ensures { Resumed (length vertices.now) vertices.now result }
 {
-    let from = b as usize;
+    let from = usize::from(b);
     let most = vertices[from].degree;
     let ahead = vertices[from..]
         .iter()
@@ -61,15 +61,11 @@ fn resume(vertices: &[Vertex], b: u16) -> Option<u16>
 // The same. The search goes on from `last`, the start of the component before, as long as there is one
 // of its degree; only where the degree falls are all vertices looked at again.
 fn start(vertices: &[Vertex], last: Option<u16>) -> Option<u16>
-    requires { (length vertices.now ≤ 65536) × Bounded (length vertices.now) vertices.now last }
+    requires { Numbered vertices.now × Bounded (length vertices.now) vertices.now last }
     ensures { Greatest (degree_at vertices.now) (unseen_at vertices.now) (length vertices.now) result }
 {
-    if let Some(b) = last {
-        if let Some(v) = resume(vertices, b) {
-            return Some(v);
-        }
-    }
-    greatest(vertices)
+    last.and_then(|b| resume(vertices, b))
+        .or_else(|| greatest(vertices))
 }
 
 // Has the vertex u wait, if it was not seen before.
@@ -79,7 +75,7 @@ fn meet(vertices: &mut [Vertex], m: usize, u: u16, heap: &mut Heap<Waiting>)
     ensures replaced { Replaced m vertices.old vertices.new }
     ensures queued { (weight : ℕ → ℕ) (vs : List ℕ) (seen : ℕ → Bool) → u < m → m ≤ length heap.old.items.now → Weighed m weight vertices.old → Queued m weight vs seen vertices.old (take heap.old.len heap.old.items.now) → Queued m weight vs (λ x. (x == u) || seen x) vertices.new (take heap.new.len heap.new.items.now) }
 {
-    let v = u as usize;
+    let v = usize::from(u);
     if v < m && unseen(vertices[v].place) {
         let degree = vertices[v].degree;
         vertices[v].place = Place::Waits;
@@ -94,7 +90,7 @@ pub(crate) fn choose(
     last: &mut Option<u16>,
     heap: &mut Heap<Waiting>,
 ) -> Option<u16>
-    requires { (2 * r ≤ length vertices.now) × (r ≤ 1024) × Bounded (2 * r) vertices.now last.old }
+    requires { HasSides r vertices.now × Bounded (2 * r) vertices.now last.old }
     ensures lent { SameRoom heap.old.items heap.new.items }
     ensures bounded { Bounded (2 * r) vertices.now last.new }
     ensures low { Low (2 * r) result }
@@ -104,7 +100,7 @@ pub(crate) fn choose(
         *last = start(&vertices[0..2 * r], *last);
         return *last;
     };
-    ((w.vertex as usize) < 2 * r).then_some(w.vertex)
+    (usize::from(w.vertex) < 2 * r).then_some(w.vertex)
 }
 
 // Has the vertices wait that share an edge with v, if they were not seen before.
@@ -115,7 +111,7 @@ pub(crate) fn gather(
     v: usize,
     heap: &mut Heap<Waiting>,
 )
-    requires { (2 * r ≤ length vertices.old) × (r ≤ 1024) × (v < 2 * r) }
+    requires { HasSides r vertices.old × (v < 2 * r) }
     ensures lent { SameRoom heap.old.items heap.new.items }
     ensures replaced { Replaced (2 * r) vertices.old vertices.new }
     ensures queued { (es : List Triple) (vs : List ℕ) → length es ≡ length edges.now → Graph es r edges.now vertices.old → 2 * r ≤ length heap.old.items.now → Queued (2 * r) (degree es) (vs ++ v ∷ []) (joined es vs) vertices.old (take heap.old.len heap.old.items.now) → Queued (2 * r) (degree es) (vs ++ v ∷ []) (joined es (vs ++ v ∷ [])) vertices.new (take heap.new.len heap.new.items.now) }

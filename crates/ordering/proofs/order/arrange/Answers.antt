@@ -12,7 +12,7 @@ use Rattle.ordering.proofs.order.arrange.Goals as goal
 pub loop-k-init : goal.loop-k-init
 loop-k-init c =
     let e = c.new-heap.ensures.lent in (
-      ap length e.1 ∙ c.requires.2,
+      ap length e.1 ∙ c.requires.1,
       replaced_none _ _,
       refl,
       tt,

@@ -1,4 +1,4 @@
-use Rattle.std.proofs.Common.{◌≡◌, ◌-◌, ◌*◌, ◌<◌, take, sym, ap, ◌∙◌, subst, arith}
+use Rattle.std.proofs.Common.{◌≡◌, ◌-◌, ◌*◌, ◌<◌, ltb, take, sym, ap, ◌∙◌, subst, arith}
 use Rattle.std.specs.Bool.{then_some}
 use Rattle.std.proofs.lemmas.Bool.{lt-ltb}
 use Rattle.ordering.specs.Queue.{Chosen}
@@ -16,7 +16,7 @@ returns-clause-chosen c =
     let y = c.in-Some.w in
     λ es vs wd q.
     let low : y.vertex < 2 * r = popped_low es r vs vertices before wd q y after h.first h.popped.content in
-    let is = c.then_some.ensures ∙ ap (λ b. then_some b y.vertex) (lt-ltb y.vertex (2 * r) low) in
+    let is = c.then_some.ensures ∙ ap (λ b. then_some b y.vertex) (ap (λ k. ltb k (2 * r)) c.from.ensures ∙ lt-ltb y.vertex (2 * r) low) in
     subst (Chosen es r vs before after) (sym is) (popped es r vs vertices before wd q y after h.first h.popped.content)
 
 pub returns-in_default-clause-chosen : goal.returns-in_default-clause-chosen
@@ -29,4 +29,4 @@ returns-in_default-clause-chosen c =
     λ es vs wd q.
     started es r vs c.args.vertices.now (take c.args.heap.now.len items) wd q (take c.pop.new.self.len after)
     (ap (λ n. take n items) p.none) (ap (λ n. take n after) (p.count ∙ p.none)) c.start.result
-    (greatest_whole (2 * r) (2 * r - 0) c.args.vertices.now z c.requires.0 c.start.result c.start.ensures)
+    (greatest_whole (2 * r) (2 * r - 0) c.args.vertices.now z c.requires.0.0 c.start.result c.start.ensures)

@@ -28,7 +28,7 @@ loop-e-preserved c =
       replaced_both _ _ _ _ l.invariant.2 a.replaced,
       λ es vs en g room q.
           let h = graph_kept es r edges vertices l.vertices l.invariant.2.first l.invariant.2.degree g in
-          let is = n.exact es r v vertices g en c.requires.2 refl refl in
+          let is = n.exact es r v vertices g en c.requires.1 refl refl in
           let below : c.far.result < 2 * r = omega (arith, c.far.ensures, met_below es r edges vertices g v (length l.yielded) x (subst (λ xs. length l.yielded < length xs) is turn.0) (turn.1 ∙ ap (λ xs. get_or xs (length l.yielded) x) is)) in
           gather_goes es r edges vertices g v vs _ _ l.yielded x c.far.result c.far.ensures
           (a.queued (degree es) (vs ++ v ∷ []) (seen_by es vs (ltb v r) l.yielded) below (omega arith) (graph_weighs es r edges l.vertices h) (l.invariant.3 es vs en g room q)),
@@ -46,4 +46,4 @@ returns-clause-queued c =
     (ap (λ (s : Chain). walk s.low s.edges.now s.at) c.into_iter-e-iterator.ensures.into_iter_gives ∙ (λ k. walk (n.starts.2 k) (n.starts.0 k) (n.starts.1 k))) in
     let end = YieldsList-end road l.yielded l.e-iterator l.yielded_by c.next.result c.next.new.self c.in-None.is c.next.ensures.steps in
     λ es vs en g room q.
-    gather_ends es r edges vertices g v vs _ _ l.yielded (sym (map-id l.yielded) ∙ end.0 ∙ n.exact es r v vertices g en c.requires.2 refl refl) (l.invariant.3 es vs en g room q)
+    gather_ends es r edges vertices g v vs _ _ l.yielded (sym (map-id l.yielded) ∙ end.0 ∙ n.exact es r v vertices g en c.requires.1 refl refl) (l.invariant.3 es vs en g room q)
