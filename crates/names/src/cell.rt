@@ -43,7 +43,7 @@ impl DayCell {
     }
 
     /// The bytes that spell the cell.
-    fn bytes(self) -> [u8; 4]
+    pub(crate) fn bytes(self) -> [u8; 4]
         ensures { result ≡ cell_spelling self.pan self.day }
     {
         let [pan_high, pan_low] = self.pan.to_be_bytes();

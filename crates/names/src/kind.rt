@@ -59,8 +59,9 @@ pub trait Kind: Copy {
 pub(crate) fn byte_at(spelling: &[u8], place: usize) -> u8
     ensures { result ≡ slice_index (0 ∷ spelling.now) place }
 {
-    match place.checked_sub(1) {
-        Some(index) => spelling.get(index).copied().unwrap_or(0),
-        None => 0,
-    }
+    place
+        .checked_sub(1)
+        .and_then(|index| spelling.get(index))
+        .copied()
+        .unwrap_or(0)
 }

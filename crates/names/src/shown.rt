@@ -1,5 +1,4 @@
 use crate::cell::DayCell;
-use crate::kind::Kind;
 use crate::point::PointName;
 use std::fmt;
 
@@ -18,7 +17,7 @@ impl fmt::Display for PointName {
 impl fmt::Display for DayCell {
     fn fmt<W: fmt::Write>(&self, f: &mut fmt::Formatter<W>) -> fmt::Result {
         let (pan, day) = self.pan_and_day();
-        let (a, b, c, d) = (self.byte(1), self.byte(2), self.byte(3), self.byte(4));
+        let [a, b, c, d] = self.bytes();
         write!(f, "pan {pan} day {day}, spelled {a} {b} {c} {d},")
     }
 }
