@@ -5,6 +5,7 @@ ghost use Rattle.hashing.specs.Triples.{sum, hashed};
 
 use crate::sizes::Sizes;
 use crate::tables::TABLE_NUMBERS;
+use names::bytes::Bytes;
 use names::kind::Kind;
 
 /// Tables that are long enough, whatever they hold.
@@ -101,8 +102,7 @@ pub fn triple_of<N: Kind>(tables: &[u32], sizes: Sizes, name: &N) -> Option<(u16
     ensures { result ≡ hashed tables.now sizes.n sizes.r (N.spelling name.now) }
 {
     let tables = Tables::over(tables)?;
-    let bytes = (0..name.len()).map(|i| name.byte(i + 1));
-    Some(Sums::over(tables, bytes).triple(sizes))
+    Some(Sums::over(tables, Bytes::of(name)).triple(sizes))
 }
 
 /// The triple of the bytes of a spelling where they lie, which is that of its name; none

@@ -2,6 +2,7 @@
 
 #![tactic(auto)]
 
+pub mod bytes;
 pub mod cell;
 pub mod fault;
 pub mod kind;
