@@ -2,7 +2,7 @@
 use Rattle.std.proofs.Common.{◌≡◌, ℕ, zero, suc, ◌+◌, ◌*◌, ◌%◌, ◌<◌, ◌≤◌, Bool, true, false, cond, ◌&&◌, ◌||◌, eqb, ltb, List, [], ◌∷◌, ◌++◌, length, get_or, take, set, Some, None, Option, sym, refl, ap, ◌∙◌, ap₂, subst, inl, inr, arith}
 use Rattle.std.specs.List.{filter_map, cons_option}
 use Rattle.std.proofs.lemmas.Bool.{cases_lt, cases_Bool, ne_eqb, or_parts, lt-ltb, le-ltb, cond-true, cond-false}
-use Rattle.std.proofs.lemmas.List.{append-nil, take_more_set}
+use Rattle.std.proofs.lemmas.List.{append-nil, take_more_set, get_or-take, length-take-le}
 use Rattle.std.proofs.ByRecursion.{All-get_or}
 use Rattle.hashing.specs.Triples.{Triple}
 use Rattle.runs.specs.Lists.{among}
@@ -11,7 +11,7 @@ use Rattle.runs.specs.Fitting.{far_end, offset}
 use Rattle.runs.proofs.Ordering.{order_lined}
 use Rattle.graph.specs.declared.rows.Edge.{Edge}
 use Rattle.graph.specs.declared.rows.Vertex.{Vertex}
-use Rattle.graph.specs.Chains.{nil, Halves, at_vertex, Linked, Graph, link, row}
+use Rattle.graph.specs.Chains.{nil, bare, Halves, at_vertex, Linked, Graph, link, row}
 use Rattle.graph.specs.Walks.{rows_where}
 use Rattle.graph.proofs.Latest.{touches_low, touches_high}
 use Rattle.graph.proofs.Walked.{listed_passes}
@@ -151,6 +151,15 @@ module _ (es : List Triple) (r : ℕ) (edges : List Edge) (vertices : List Verte
 
     abbrev all : List (ℕ × Edge)
     all = rows_where (at_vertex es v) edges (length es)
+
+    pub part_tells : (m : ℕ) → m ≤ length vertices → (h0 u : ℕ) → cond (ltb u (length (take m vertices)) && comes_before level (row (take m vertices) u).place) (Some ((h0 + (row (take m vertices) u).value) % size)) None ≡ cond (ltb u m && comes_before level (row vertices u).place) (Some ((h0 + (row vertices u).value) % size)) None
+    part_tells m l h0 u =
+        let long = length-take-le m vertices l in
+        elim (cases_lt u m) [
+          | inl b ↦ let is : row (take m vertices) u ≡ row vertices u = get_or-take m vertices u bare b in λ i. cond (ltb u (long i) && comes_before level (is i).place) (Some ((h0 + (is i).value) % size)) None
+          | inr b ↦ ap (λ t. cond (t && comes_before level (row (take m vertices) u).place) (Some ((h0 + (row (take m vertices) u).value) % size)) None) (ap (ltb u) long ∙ le-ltb u m b) ∙
+              sym (ap (λ t. cond (t && comes_before level (row vertices u).place) (Some ((h0 + (row vertices u).value) % size)) None) (le-ltb u m b))
+        ]
 
     pub offset_tells : (k : ℕ) (x : ℕ × Edge) → k < length all → x ≡ get_or all k x → (u : ℕ) (o : Option ℕ) → u ≡ far_of x.1 → o ≡ offset_at x.1 u → o ≡ cond (in_level es vs v x.0) (Some (offset size values v (get_or es x.0 nil))) None
     offset_tells k x l is u o eu eo =

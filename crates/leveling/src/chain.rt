@@ -3,7 +3,7 @@ ghost use Rattle.std.specs.Prelude.{◌≡◌, ℕ, ◌+◌, ◌*◌, ◌%◌, �
 ghost use Rattle.hashing.specs.Triples.{Triple};
 ghost use Rattle.runs.specs.Order.{order};
 ghost use Rattle.graph.specs.Chains.{row, Graph};
-ghost use Rattle.ordering.specs.Queue.{Placed};
+ghost use Rattle.ordering.specs.Queue.{HasSides, Placed};
 ghost use Rattle.leveling.specs.Level.{comes_before, Valued, chain_names};
 
 use fitting::level::LevelName;
@@ -14,29 +14,19 @@ use graph::rows::{Edge, Place, Vertex};
 fn is_earlier(place: Place, level: usize) -> bool
     ensures { result ≡ comes_before level place }
 {
-    matches!(place, Place::At(k) if (k as usize) < level)
+    matches!(place, Place::At(k) if usize::from(k) < level)
 }
 
 // The offset of a name with this first number whose edge ends at u, if u is earlier than the level.
-fn offset_by(
-    h0: u16,
-    u: usize,
-    m: usize,
-    vertices: &[Vertex],
-    level: usize,
-    n: usize,
-) -> Option<u16>
-    requires { (m ≤ length vertices.now) × (1 ≤ n) × (n ≤ 1024) }
-    ensures { result ≡ (if nat_lt u m && comes_before level (row vertices.now u).place then Some ((h0 + (row vertices.now u).value) % n) else None) }
+fn offset_by(h0: u16, u: usize, vertices: &[Vertex], level: usize, n: usize) -> Option<u16>
+    requires { (1 ≤ n) × (n ≤ 1024) }
+    ensures { result ≡ (if nat_lt u (length vertices.now) && comes_before level (row vertices.now u).place then Some ((h0 + (row vertices.now u).value) % n) else None) }
 {
-    if u >= m {
-        return None;
-    }
-    let x = vertices[u];
+    let x = vertices.get(u)?;
     if !is_earlier(x.place, level) {
         return None;
     }
-    Some(((h0 as usize + x.value as usize) % n) as u16)
+    Some(((usize::from(h0) + usize::from(x.value)) % n) as u16)
 }
 
 // Writes the names of the level of v, the latest first, and answers how many there are: those of the
@@ -49,7 +39,7 @@ pub(crate) fn collect(
     level: usize,
     names: &mut [LevelName],
 ) -> usize
-    requires { (1 ≤ length edges.now) × (length edges.now ≤ 1024) × (r ≤ 1024) × (2 * r ≤ length vertices.now) × (v < 2 * r) × (length edges.now ≤ length names.old) }
+    requires { (1 ≤ length edges.now) × (length edges.now ≤ 1024) × HasSides r vertices.now × (v < 2 * r) × (length edges.now ≤ length names.old) }
     ensures few { result ≤ length edges.now }
     ensures told { (es : List Triple) (values : List ℕ) → length es ≡ length edges.now → Graph es r edges.now vertices.now → ((u : ℕ) → u < 2 * r → Placed (order es r) u (row vertices.now u).place) → Valued (2 * r) values vertices.now → take result names.new ≡ chain_names es (length edges.now) values (take level (order es r)) v (length edges.now) }
 {
@@ -57,7 +47,13 @@ pub(crate) fn collect(
     let low = v < r;
     let mut k = 0;
     for (row, e) in Chain::new(edges, vertices[v].first, low) {
-        if let Some(offset) = offset_by(e.h0, e.far(low) as usize, 2 * r, vertices, level, n) {
+        if let Some(offset) = offset_by(
+            e.h0,
+            usize::from(e.far(low)),
+            &vertices[..2 * r],
+            level,
+            n,
+        ) {
             names[k] = LevelName {
                 row: row as u16,
                 offset,
