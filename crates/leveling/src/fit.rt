@@ -53,7 +53,7 @@ pub fn fit_level<W: Way>(
     if !fits(n, r, level, edges, vertices, ordered, slots) {
         return None;
     }
-    let v = ordered[level] as usize;
+    let v = usize::from(ordered[level]);
     if v >= 2 * r {
         return None;
     }

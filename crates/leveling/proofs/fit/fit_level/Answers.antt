@@ -1,4 +1,4 @@
-use Rattle.std.proofs.Common.{◌≡◌, ◌-◌, length, get_or, take, drop, set, sym, refl, ap, ◌∙◌, arith}
+use Rattle.std.proofs.Common.{◌≡◌, ◌-◌, length, get_or, take, drop, set, sym, ap, ◌∙◌, subst, arith}
 use Rattle.std.proofs.lemmas.List.{length-take-le}
 use Rattle.runs.specs.Order.{order}
 use Rattle.graph.specs.Chains.{row}
@@ -11,7 +11,7 @@ pub returns-then-v-r-clause-told : goal.returns-then-v-r-clause-told
 returns-then-v-r-clause-told g c = λ es values filled fits sized h.
     let is = vertex_is es c.args.r c.args.n values filled c.args.level c.args.edges.now c.args.vertices.now c.args.ordered.now c.args.slots.now h in
     let low = vertex_low es c.args.r c.args.n values filled c.args.level c.args.edges.now c.args.vertices.now c.args.ordered.now c.args.slots.now h in
-    absurd (omega (arith, c.if-v-r.true))
+    absurd (omega (arith, c.from-v.ensures, c.if-v-r.true))
 
 pub returns-in_err-x-clause-told : goal.returns-in_err-x-clause-told
 returns-in_err-x-clause-told g c = rw c.from_residual.ensures (λ es values filled fits sized h.
@@ -29,7 +29,7 @@ returns-in_err-x-clause-told g c = rw c.from_residual.ensures (λ es values fill
     let names = take (k - 0) c.collect-k.new.names in
     let listed : names ≡ chain_names es n values (take c.args.level (order es r)) v n =
     ap (λ j. take j c.collect-k.new.names) zk ∙
-    c.collect-k.ensures.told es values (h.counted ∙ sym part) (graph_part es r edges vertices (n - 0) (omega (arith, h.counted)) h.graph.graph) h.graph.placed h.value_at ∙
+    subst (λ u. take k c.collect-k.new.names ≡ chain_names es (length (take (n - 0) edges)) values (take c.args.level (order es r)) u (length (take (n - 0) edges))) c.from-v.ensures (c.collect-k.ensures.told es values (h.counted ∙ sym part) (graph_part es r edges vertices (n - 0) (omega (arith, h.counted)) h.graph.graph) h.graph.placed h.value_at) ∙
     ap (λ i. chain_names es i values (take c.args.level (order es r)) v i) part in
     fitted_none es r n values filled c.args.level edges vertices c.args.ordered.now slots h long.slots_there names listed
     (g.W.Way.meaning c.args.way.now) (take (n - 0) slots) (ap (λ j. take j slots) zn) sized c.in_err-x.ensures)
@@ -50,8 +50,8 @@ returns-clause-told g c = λ es values filled fits sized h.
     let names = take (k - 0) c.collect-k.new.names in
     let listed : names ≡ chain_names es n values (take c.args.level (order es r)) v n =
     ap (λ j. take j c.collect-k.new.names) zk ∙
-    c.collect-k.ensures.told es values (h.counted ∙ sym part) (graph_part es r edges vertices (n - 0) (omega (arith, h.counted)) h.graph.graph) h.graph.placed h.value_at ∙
+    subst (λ u. take k c.collect-k.new.names ≡ chain_names es (length (take (n - 0) edges)) values (take c.args.level (order es r)) u (length (take (n - 0) edges))) c.from-v.ensures (c.collect-k.ensures.told es values (h.counted ∙ sym part) (graph_part es r edges vertices (n - 0) (omega (arith, h.counted)) h.graph.graph) h.graph.placed h.value_at) ∙
     ap (λ i. chain_names es i values (take c.args.level (order es r)) v i) part in
     fitted_some es r n values filled c.args.level edges vertices c.args.ordered.now slots h long.slots_there names listed
     (g.W.Way.meaning c.args.way.now) c.in_ok-x.x c.in_ok-x.tries (take (n - 0) slots) c.fill.new.slots (drop (n - 0) slots) (ap (λ j. take j slots) zn) sized c.in_ok-x.ensures long.vertices_there
-    (set vertices v (valued c.in_ok-x.x (row vertices v))) refl c.fill.ensures.rows
+    (set vertices c.from-v.result (valued c.in_ok-x.x (row vertices c.from-v.result))) (ap (λ u. set vertices u (valued c.in_ok-x.x (row vertices u))) c.from-v.ensures) c.fill.ensures.rows
