@@ -1,7 +1,6 @@
 ghost use Rattle.std.specs.Prelude.{◌≡◌, ◌+◌, ◌*◌, ◌<◌, ◌≤◌, length, MatchOption};
 ghost use Rattle.sealing.specs.Sealing.{seal_length, seal_fits, front_written, values_written, slot_written, records_written, SealRefused, SealWritten};
 
-use fields::fault::WriteFault;
 use fields::write::{write_header, write_record, write_value, write_values_head};
 use graph::rows::{Row, Vertex};
 use hashing::seed::Seed;
@@ -25,26 +24,23 @@ fn fits(sizes: Sizes, memory: usize, vertices: usize, slots: usize) -> bool
 }
 
 /// The fields of kind, sizes and seed, and the head of the values field.
-fn write_front<N: Kind>(sizes: Sizes, seed: Seed, memory: &mut [u8]) -> Result<(), WriteFault>
+fn write_front<N: Kind>(sizes: Sizes, seed: Seed, memory: &mut [u8])
     requires { 21 ≤ length memory.old }
-    ensures done { result ≡ Ok tt }
-    ensures memory { memory.new ≡ front_written N.number sizes.n sizes.r seed.value memory.old }
+    ensures { memory.new ≡ front_written N.number sizes.n sizes.r seed.value memory.old }
 {
-    write_header(memory, N::number(), sizes, seed)?;
-    write_values_head(memory, sizes)
+    write_header(memory, N::number(), sizes, seed).unwrap();
+    write_values_head(memory, sizes).unwrap();
 }
 
 /// The values of the vertices.
-fn write_values(vertices: &[Vertex], memory: &mut [u8]) -> Result<(), WriteFault>
+fn write_values(vertices: &[Vertex], memory: &mut [u8])
     requires few { length vertices.now ≤ 2048 }
     requires room { 21 + 2 * length vertices.now ≤ length memory.old }
-    ensures done { result ≡ Ok tt }
-    ensures memory { memory.new ≡ values_written vertices.now (length vertices.now) memory.old }
+    ensures { memory.new ≡ values_written vertices.now (length vertices.now) memory.old }
 {
     for (index, vertex) in vertices.iter().enumerate() {
-        write_value(memory, index, vertex.value)?;
+        write_value(memory, index, vertex.value).unwrap();
     }
-    Ok(())
 }
 
 /// The record of the row that a slot holds, in the field of the slot; nothing if there is no such row.
@@ -54,34 +50,26 @@ fn write_slot<N: Kind>(
     sizes: Sizes,
     slot: usize,
     memory: &mut [u8],
-) -> Result<(), WriteFault>
+)
     requires there { slot < sizes.n }
     requires room { seal_length sizes.n sizes.r ≤ length memory.old }
-    ensures done { result ≡ Ok tt }
-    ensures memory { memory.new ≡ slot_written N.spelling rows.now sizes.r slot held memory.old }
+    ensures { memory.new ≡ slot_written N.spelling rows.now sizes.r slot held memory.old }
 {
     let Some(row) = held.and_then(|i| rows.get(usize::from(i))) else {
-        return Ok(());
+        return;
     };
-    write_record(memory, sizes, slot, row.setting, &row.name)
+    write_record(memory, sizes, slot, row.setting, &row.name).unwrap();
 }
 
 /// The records of the rows that the slots hold, each in the field of its slot.
-fn write_records<N: Kind>(
-    rows: &[Row<N>],
-    slots: &[Option<u16>],
-    sizes: Sizes,
-    memory: &mut [u8],
-) -> Result<(), WriteFault>
+fn write_records<N: Kind>(rows: &[Row<N>], slots: &[Option<u16>], sizes: Sizes, memory: &mut [u8])
     requires there { length slots.now ≤ sizes.n }
     requires room { seal_length sizes.n sizes.r ≤ length memory.old }
-    ensures done { result ≡ Ok tt }
-    ensures memory { memory.new ≡ records_written N.spelling rows.now slots.now sizes.r (length slots.now) memory.old }
+    ensures { memory.new ≡ records_written N.spelling rows.now slots.now sizes.r (length slots.now) memory.old }
 {
     for (slot, held) in slots.iter().enumerate() {
-        write_slot(rows, *held, sizes, slot, memory)?;
+        write_slot(rows, *held, sizes, slot, memory);
     }
-    Ok(())
 }
 
 /// Writes the string of a plate at the start of the memory: the kind number, the sizes, the seed,
@@ -103,9 +91,9 @@ pub fn write_plate<N: Kind>(
     if !fits(sizes, memory.len(), vertices.len(), slots.len()) {
         return None;
     }
-    write_front::<N>(sizes, seed, memory).ok()?;
-    write_values(&vertices[..2 * r], memory).ok()?;
-    write_records(rows, &slots[..n], sizes, memory).ok()?;
+    write_front::<N>(sizes, seed, memory);
+    write_values(&vertices[..2 * r], memory);
+    write_records(rows, &slots[..n], sizes, memory);
     Some(string_length(sizes))
 }
 

@@ -6,4 +6,4 @@ pub returns : goal.returns
 returns g c =
     all_written g.N.Kind.spelling g.met.N.Kind.spelling_to_16 g.N.Kind.number c.args.sizes.n c.args.sizes.r c.args.seed.value c.args.rows.now c.args.vertices.now c.args.slots.now
     c.from-n.result c.from-r.result (c.from-n.ensures ∙ c.n.ensures) (c.from-r.ensures ∙ c.r.ensures) (sym c.if-not-fits.ensures)
-    c.write_front.ensures.memory c.write_values.ensures.memory c.write_records.ensures.memory c.string_length.ensures
+    c.write_front.ensures c.write_values.ensures c.write_records.ensures c.string_length.ensures
