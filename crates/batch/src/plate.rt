@@ -1,3 +1,6 @@
+ghost use Rattle.std.specs.Prelude.{OnOk, string_bytes};
+ghost use Rattle.typing.specs.Lines.{AddsLines};
+
 use crate::bench::{Bench, Sealed};
 use graph::rows::Vertex;
 use listing::hashed::Hashed;
@@ -27,11 +30,13 @@ fn slots<N: Typed>(
     list: &Hashed<N>,
     vertices: &[Vertex],
     out: &mut String,
-) -> Result<(), AllocError> {
+) -> Result<(), AllocError>
+    ensures { OnOk result (AddsLines (string_bytes out.old) (string_bytes out.new)) }
+{
     let n = list.sizes.n();
     for (row, triple) in list.names.iter().zip(&list.triples) {
         if let Some(slot) = slot(*triple, vertices, n) {
-            let name = row.name;
+            let name = row.name.to_string(*out.allocator())?;
             writeln!(out, "{name} slot {slot}")?;
         }
     }
@@ -44,7 +49,9 @@ fn levels<N: Typed>(
     r: u16,
     levels: usize,
     out: &mut String,
-) -> Result<(), AllocError> {
+) -> Result<(), AllocError>
+    ensures { OnOk result (AddsLines (string_bytes out.old) (string_bytes out.new)) }
+{
     let vertices = first(&bench.lists.vertices, usize::from(r) * 2);
     let values: Vec<u16> = vertices
         .iter()
@@ -64,7 +71,9 @@ pub fn show<N: Typed>(
     bench: &Bench<N>,
     sealed: Sealed,
     out: &mut String,
-) -> Result<(), AllocError> {
+) -> Result<(), AllocError>
+    ensures { OnOk result (AddsLines (string_bytes out.old) (string_bytes out.new)) }
+{
     levels(bench, list.sizes.r(), sealed.levels, out)?;
     slots(list, &bench.lists.vertices, out)?;
     let len = sealed.len;

@@ -1,3 +1,6 @@
+ghost use Rattle.std.specs.Prelude.{OnOk, string_bytes};
+ghost use Rattle.typing.specs.Lines.{AddsLines};
+
 use graph::rows::Row;
 use std::alloc::AllocError;
 use std::str::Lines;
@@ -5,7 +8,9 @@ use typing::numbers::Reading;
 use typing::typed::{Typed, Unlisted};
 
 // Says why the line of this number has no name.
-fn unlisted<N: Typed>(at: usize, reason: Unlisted, out: &mut String) -> Result<(), AllocError> {
+fn unlisted<N: Typed>(at: usize, reason: Unlisted, out: &mut String) -> Result<(), AllocError>
+    ensures { OnOk result (AddsLines (string_bytes out.old) (string_bytes out.new)) }
+{
     match reason {
         Unlisted::Refused(fault) => {
             let (number, rule) = (fault.number(), N::rule());
@@ -22,7 +27,9 @@ fn unlisted<N: Typed>(at: usize, reason: Unlisted, out: &mut String) -> Result<(
 pub(crate) fn names_in<N: Typed, R: Reading>(
     lines: Lines<'_>,
     out: &mut String,
-) -> Result<Vec<Row<N>>, AllocError> {
+) -> Result<Vec<Row<N>>, AllocError>
+    ensures { OnOk result (AddsLines (string_bytes out.old) (string_bytes out.new)) }
+{
     let mut names = Vec::new(*out.allocator());
     for (at, line) in (2usize..).zip(lines) {
         match N::read::<R>(line.split_whitespace()) {

@@ -1,5 +1,6 @@
-ghost use Rattle.std.specs.Prelude.{length, IfOk, MatchOption};
+ghost use Rattle.std.specs.Prelude.{length, IfOk, MatchOption, OnOk, string_bytes};
 ghost use Rattle.listing.specs.Clashes.{AreApart, IsFirstClash};
+ghost use Rattle.typing.specs.Lines.{AddsLines};
 
 use graph::rows::Row;
 use hashing::seed::Seed;
@@ -33,13 +34,15 @@ impl<N: Typed> Hashed<N> {
         sizes: Sizes,
         seed: Seed,
         out: &mut String,
-    ) -> Result<Hashed<N>, AllocError> {
+    ) -> Result<Hashed<N>, AllocError>
+        ensures { OnOk result (AddsLines (string_bytes out.old) (string_bytes out.new)) }
+    {
         let heap = *out.allocator();
         let tables = tables(heap, seed)?;
         let mut triples = Vec::new(heap);
         for row in &names {
             if let Some((h0, h1, h2)) = triple_of(&tables, sizes, &row.name) {
-                let (name, setting) = (row.name, row.setting);
+                let (name, setting) = (row.name.to_string(heap)?, row.setting);
                 writeln!(out, "{name} setting {setting} triple {h0} {h1} {h2}")?;
                 triples.push((h0, h1, h2))?;
             }

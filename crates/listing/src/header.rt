@@ -1,3 +1,6 @@
+ghost use Rattle.std.specs.Prelude.{Some};
+ghost use Rattle.listing.specs.Headers.{sentence};
+
 use hashing::fault::HashFault;
 use hashing::seed::Seed;
 use hashing::sizes::Sizes;
@@ -27,6 +30,8 @@ impl From<UnknownKind> for NoHeader {
 }
 
 impl fmt::Display for NoHeader {
+    ghost output = { λ reason. Some (sentence reason) };
+
     fn fmt<W: fmt::Write>(&self, f: &mut fmt::Formatter<W>) -> fmt::Result {
         match self {
             NoHeader::Unread => write!(f, "the first line is not KIND R SEED"),

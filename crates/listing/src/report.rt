@@ -1,3 +1,6 @@
+ghost use Rattle.std.specs.Prelude.{OnOk, IfOk, [], string_bytes};
+ghost use Rattle.typing.specs.Lines.{AddsLines};
+
 use crate::entries::names_in;
 use crate::hashed::Hashed;
 use crate::header::Header;
@@ -18,7 +21,8 @@ pub trait Ending {
         list: &Hashed<N>,
         way: Option<StrideWay>,
         out: &mut String,
-    ) -> Result<(), AllocError>;
+    ) -> Result<(), AllocError>
+        ensures { OnOk result (AddsLines (string_bytes out.old) (string_bytes out.new)) };
 }
 
 // The report on a list of one kind.
@@ -26,7 +30,9 @@ fn report_on<N: Typed, R: Reading, E: Ending>(
     header: Header,
     lines: Lines<'_>,
     out: &mut String,
-) -> Result<(), AllocError> {
+) -> Result<(), AllocError>
+    ensures { OnOk result (AddsLines (string_bytes out.old) (string_bytes out.new)) }
+{
     let names = names_in::<N, R>(lines, out)?;
     let (kind, r, seed, count) = (N::number(), header.r, header.seed, names.len());
     writeln!(out, "kind {kind}, {count} names, r {r}, seed {seed}")?;
@@ -36,12 +42,17 @@ fn report_on<N: Typed, R: Reading, E: Ending>(
             let way = propose(sizes.n(), out)?;
             E::end(&list, way, out)
         }
-        Err(fault) => writeln!(out, "{fault}"),
+        Err(fault) => {
+            let refusal = fault.to_string(*out.allocator())?;
+            writeln!(out, "{refusal}")
+        }
     }
 }
 
 /// The report on a list: its first line is `KIND R SEED`, each other one a name and a setting.
-pub fn report<R: Reading, E: Ending>(heap: Global, text: &str) -> Result<String, AllocError> {
+pub fn report<R: Reading, E: Ending>(heap: Global, text: &str) -> Result<String, AllocError>
+    ensures { IfOk result (λ report. AddsLines [] (string_bytes report)) }
+{
     let mut out = String::new(heap);
     let mut lines = text.lines();
     match Header::read::<R>(lines.next().unwrap_or("")) {

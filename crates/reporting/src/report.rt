@@ -1,3 +1,6 @@
+ghost use Rattle.std.specs.Prelude.{OnOk, IfOk, [], string_bytes};
+ghost use Rattle.typing.specs.Lines.{AddsLines};
+
 use batch::bench::Bench;
 use batch::plate::show;
 use batch::stopped::Stopped;
@@ -10,11 +13,14 @@ use typing::typed::Typed;
 use ways::stride::StrideWay;
 
 // Says where a pressing stopped and why, with the names that clash.
-fn stop<N: Typed>(list: &Hashed<N>, stopped: Stopped, out: &mut String) -> Result<(), AllocError> {
+fn stop<N: Typed>(list: &Hashed<N>, stopped: Stopped, out: &mut String) -> Result<(), AllocError>
+    ensures { OnOk result (AddsLines (string_bytes out.old) (string_bytes out.new)) }
+{
     let clash = match stopped.fault {
         PressFault::Clash => list.clash()?,
         _ => None,
     };
+    let stopped = stopped.to_string(*out.allocator())?;
     match clash {
         Some((first, second)) => writeln!(out, "{stopped}: names {first} and {second}"),
         None => writeln!(out, "{stopped}"),
@@ -43,6 +49,8 @@ impl Ending for Pressed {
 }
 
 /// The report on a list: its first line is `KIND R SEED`, each other one a name and a setting.
-pub fn report(heap: Global, text: &str) -> Result<String, AllocError> {
+pub fn report(heap: Global, text: &str) -> Result<String, AllocError>
+    ensures { IfOk result (λ report. AddsLines [] (string_bytes report)) }
+{
     report_on::<Capped, Pressed>(heap, text)
 }

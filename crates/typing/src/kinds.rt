@@ -1,3 +1,4 @@
+ghost use Rattle.std.specs.Prelude.{Some, codes};
 ghost use Rattle.typing.specs.Kinds.{Chooses};
 
 use std::fmt;
@@ -30,6 +31,8 @@ impl TryFrom<u64> for NameKind {
 }
 
 impl fmt::Display for UnknownKind {
+    ghost output = { λ _. Some (codes "there are kinds 1 (point names) and 2 (day cells)") };
+
     fn fmt<W: fmt::Write>(&self, f: &mut fmt::Formatter<W>) -> fmt::Result {
         write!(f, "there are kinds 1 (point names) and 2 (day cells)")
     }

@@ -1,4 +1,4 @@
-ghost use Rattle.std.specs.Prelude.{◌≡◌, ◌++◌, OnErr, OnOk, string_bytes, IfOk, IsOk};
+ghost use Rattle.std.specs.Prelude.{◌≡◌, ◌++◌, ◌∷◌, OnErr, OnOk, string_bytes, IfOk, IsOk, Some, flat_map, decimal};
 
 use std::alloc::AllocError;
 use std::fmt;
@@ -18,6 +18,8 @@ pub fn append(out: &mut String, text: Result<String, AllocError>) -> Result<(), 
 pub struct Numbers<'a>(pub &'a [u16]);
 
 impl<'a> fmt::Display for Numbers<'a> {
+    ghost output = { λ numbers. Some (flat_map (λ x. 32 ∷ decimal x) numbers.0.now) };
+
     fn fmt<W: fmt::Write>(&self, f: &mut fmt::Formatter<W>) -> fmt::Result {
         for x in self.0 {
             write!(f, " {x}")?;

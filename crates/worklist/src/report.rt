@@ -1,3 +1,6 @@
+ghost use Rattle.std.specs.Prelude.{IfOk, [], string_bytes};
+ghost use Rattle.typing.specs.Lines.{AddsLines};
+
 use listing::hashed::Hashed;
 use listing::report::{Ending, report as report_on};
 use std::alloc::{AllocError, Global};
@@ -22,6 +25,8 @@ impl Ending for Clashes {
 }
 
 /// The report on a list: its first line is `KIND R SEED`, each other one a name and a setting.
-pub fn report(heap: Global, text: &str) -> Result<String, AllocError> {
+pub fn report(heap: Global, text: &str) -> Result<String, AllocError>
+    ensures { IfOk result (λ report. AddsLines [] (string_bytes report)) }
+{
     report_on::<Whole, Clashes>(heap, text)
 }
