@@ -21,7 +21,7 @@ use Rattle.pressing.specs.Stages.{belongs, next_stage, begun}
 use Rattle.pressing.specs.Left.{as_row, Kept, Held, Left}
 use Rattle.pressing.specs.Calls.{enter_gate, reopen_gate, EnterDone, ReopenDone}
 use Rattle.pressing.proofs.Room.{ample_all}
-use Rattle.pressing.proofs.Steps.{stops, goes, first_behind, or_none, stage_passed, stage_refused, passed_by, barred_by, by_gate, by_lists, by_acceptance}
+use Rattle.pressing.proofs.Steps.{stops, goes, first_behind, or_none, stage_passed, passed_by, barred_by, by_gate, by_lists, by_acceptance}
 
 -- what the pressing keeps beside its stage is as it was
 pub record Moved {N : Type 0} (p p' : Pressing N) : Type 0 where
@@ -146,12 +146,6 @@ module _ {N : Type 0} (spelling : N → List ℕ) (p : Pressing N) where
 
   abbrev reopened : Unit {0} → Outcome
   reopened _ = answered.Reopened
-
-  pub reopen_wrong : (r : Result (Unit {0}) PressFault) {f : PressFault} → next_stage Reopen p.stage ≡ Err f → r ≡ Err f → ReopenDone spelling p r p
-  reopen_wrong r {f} e q =
-      let s = stage_refused Reopen p.stage f e in
-      subst (λ r. ReopenDone spelling p r p) (sym q)
-      (λ l. by_gate spelling reopen reopened (reopen_gate p) None p l (λ _. None) reopen_split f (stops (belongs Reopen p.stage) WrongStage [] s.0 ∙ ap (λ g. Some g) (sym s.1)))
 
   pub reopen_done : {t : Stage} → next_stage Reopen p.stage ≡ Ok t → (p' : Pressing N) → p'.stage ≡ t → p'.count ≡ p.count → Moved p p' → ReopenDone spelling p (Ok tt) p'
   reopen_done {t} e p' staged counted moved = λ l.
