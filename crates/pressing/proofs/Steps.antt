@@ -56,13 +56,6 @@ by_belongs false t s h = absurd cc
 pub stage_passed : (e : Event) (s t : Stage) → next_stage e s ≡ Ok t → Passed e s t
 stage_passed e s t h = let q = by_belongs (belongs e s) (leads e) t h in record { belonged = q.0; led = q.1 }
 
-by_strange : (b : Bool) (t : Stage) (f : PressFault) → with_value (unless b WrongStage) t ≡ Err f → (b ≡ false) × (f ≡ WrongStage)
-by_strange true t f h = absurd cc
-by_strange false t f h = (refl, cc)
-
-pub stage_refused : (e : Event) (s : Stage) (f : PressFault) → next_stage e s ≡ Err f → (belongs e s ≡ false) × (f ≡ WrongStage)
-stage_refused e s f h = by_strange (belongs e s) (leads e) f h
-
 -- with the lengths of the lists
 pub record Begun (e : Event) (s t : Stage) (l : Lent) : Type 0 where
   pub belonged : belongs e s ≡ true
