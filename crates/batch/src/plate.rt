@@ -21,7 +21,7 @@ fn slot(triple: (u16, u16, u16), vertices: &[Vertex], n: u16) -> Option<usize> {
     let (h0, h1, h2) = triple;
     let a = vertices.get(usize::from(h1))?;
     let b = vertices.get(usize::from(h2))?;
-    let sum = usize::from(h0) + usize::from(a.value) + usize::from(b.value);
+    let sum = h0 as usize + a.value as usize + b.value as usize;
     sum.checked_rem(usize::from(n))
 }
 
