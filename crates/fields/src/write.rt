@@ -112,5 +112,8 @@ pub fn write_record<N: Kind>(
         return Err(WriteFault::NoSuchPlace);
     }
     let at = 21 + 4 * usize::from(sizes.r()) + 22 * slot;
+    if memory.len() < at + 22 {
+        return Err(WriteFault::ShortMemory);
+    }
     put(memory, at, &record(setting, name))
 }

@@ -1,7 +1,7 @@
 -- The last of some numbers that passes, and the degree of a vertex.
 use Rattle.std.proofs.Common.{◌≡◌, ℕ, zero, suc, ◌+◌, ◌<◌, ◌≤◌, Bool, true, false, cond, ◌||◌, eqb, List, [], ◌∷◌, ◌++◌, length, get_or, sym, refl, ap, ◌∙◌, inl, inr, add-one, arith}
 use Rattle.std.specs.List.{AllByRecursion}
-use Rattle.std.proofs.lemmas.Bool.{cases_Bool, ne_eqb, cond-true, cond-false}
+use Rattle.std.proofs.lemmas.Bool.{cases_eq, cases_Bool, ne_eqb, cond-true, cond-false}
 use Rattle.std.proofs.lemmas.List.{length_push, get_or_push, get_or_append_left}
 use Rattle.std.proofs.ByRecursion.{All-get_or}
 use Rattle.hashing.specs.Triples.{Triple}
@@ -13,12 +13,29 @@ pub latest_same : (p q : ℕ → Bool) (k : ℕ) → ((j : ℕ) → j < k → p 
 latest_same p q zero h = refl
 latest_same p q (suc k) h = λ t. cond (h k (omega arith) t) (suc k) (latest_same p q k (λ j l. h j (omega arith)) t)
 
--- it is at most k
+-- it is at most k; those from it on do not pass; and it itself does
 pub latest_le : (p : ℕ → Bool) (k : ℕ) → latest p k ≤ k
 latest_le p zero = omega arith
 latest_le p (suc k) = elim (cases_Bool (p k)) [
   | inl e ↦ omega (arith, cond-true (p k) (suc k) (latest p k) e)
   | inr e ↦ omega (arith, cond-false (p k) (suc k) (latest p k) e, latest_le p k)
+]
+
+pub latest_past : (p : ℕ → Bool) (k j : ℕ) → latest p k ≤ j → j < k → p j ≡ false
+latest_past p zero j a b = absurd (omega arith)
+latest_past p (suc k) j a b = elim (cases_Bool (p k)) [
+  | inl e ↦ absurd (omega (arith, cond-true (p k) (suc k) (latest p k) e))
+  | inr e ↦ elim (cases_eq j k) [
+    | inl q ↦ ap p q ∙ e
+    | inr q ↦ latest_past p k j (omega (arith, cond-false (p k) (suc k) (latest p k) e)) (omega arith)
+  ]
+]
+
+pub latest_passes : (p : ℕ → Bool) (k j : ℕ) → latest p k ≡ suc j → p j ≡ true
+latest_passes p zero j a = absurd (omega arith)
+latest_passes p (suc k) j a = elim (cases_Bool (p k)) [
+  | inl e ↦ let q : j ≡ k = omega (arith, cond-true (p k) (suc k) (latest p k) e) in ap p q ∙ e
+  | inr e ↦ latest_passes p k j (sym (cond-false (p k) (suc k) (latest p k) e) ∙ a)
 ]
 
 pub degree_push : (es : List Triple) (t : Triple) (v : ℕ) → degree (es ++ t ∷ []) v ≡ degree es v + one (touches v t)

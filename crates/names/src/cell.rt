@@ -6,7 +6,7 @@ ghost use Rattle.names.specs.Judged.{cell_parts};
 ghost use Rattle.std.proofs.Common.{rules};
 
 use crate::fault::NameFault;
-use crate::kind::{Kind, byte_at};
+use crate::kind::Kind;
 
 const KIND: u8 = 2;
 
@@ -100,7 +100,15 @@ impl Kind for DayCell {
     }
 
     fn byte(&self, place: usize) -> u8 {
-        byte_at(&self.bytes(), place)
+        let [pan_high, pan_low] = self.pan.to_be_bytes();
+        let [day_high, day_low] = self.day.to_be_bytes();
+        match place {
+            1 => pan_high,
+            2 => pan_low,
+            3 => day_high,
+            4 => day_low,
+            _ => 0,
+        }
     }
 
     fn judge(bytes: &[u8]) -> bool {
