@@ -54,11 +54,15 @@ impl<N: Kind> Bench<N> {
         Ok(())
     }
 
-    // Fits the levels.
+    // Fits the levels, also those for whose tries there is no place.
     fn fit<W: Way>(&mut self, way: &W, levels: usize) -> Result<(), Stopped> {
-        for (level, tries) in self.tries.iter_mut().take(levels).enumerate() {
+        let mut tries = self.tries.iter_mut();
+        for level in 0..levels {
             let lists = self.lists.lend();
-            *tries = answered(Call::Fit(level), self.pressing.fit(lists, way))?.tries;
+            let fit = answered(Call::Fit(level), self.pressing.fit(lists, way))?;
+            if let Some(place) = tries.next() {
+                *place = fit.tries;
+            }
         }
         Ok(())
     }

@@ -2,10 +2,10 @@ ghost use Rattle.std.specs.Prelude.{OnOk, string_bytes};
 ghost use Rattle.typing.specs.Lines.{AddsLines};
 
 use crate::bench::{Bench, Sealed};
-use graph::rows::Vertex;
-use listing::hashed::Hashed;
+use graph::rows::{Row, Vertex};
+use hashing::sizes::Sizes;
 use std::alloc::AllocError;
-use typing::text::Numbers;
+use typing::text::{Numbers, add_line};
 use typing::typed::Typed;
 
 /// How many bytes of a string are shown.
@@ -27,17 +27,18 @@ fn slot(triple: (u16, u16, u16), vertices: &[Vertex], n: u16) -> Option<usize> {
 
 // A line for each name with its slot.
 fn slots<N: Typed>(
-    list: &Hashed<N>,
+    names: &[Row<N>],
+    triples: &[(u16, u16, u16)],
     vertices: &[Vertex],
+    n: u16,
     out: &mut String,
 ) -> Result<(), AllocError>
     ensures { OnOk result (AddsLines (string_bytes out.old) (string_bytes out.new)) }
 {
-    let n = list.sizes.n();
-    for (row, triple) in list.names.iter().zip(&list.triples) {
+    for (row, triple) in names.iter().zip(triples) {
         if let Some(slot) = slot(*triple, vertices, n) {
             let name = row.name.to_string(*out.allocator())?;
-            writeln!(out, "{name} slot {slot}")?;
+            add_line(out, format_args!("{name} slot {slot}"))?;
         }
     }
     Ok(())
@@ -62,22 +63,30 @@ fn levels<N: Typed>(
         Numbers(&values),
     );
     let tries = Numbers(first(&bench.tries, levels));
-    write!(out, "order{order}\nvalues{values}\ntries{tries}\n")
+    add_line(
+        out,
+        format_args!("order{order}\nvalues{values}\ntries{tries}"),
+    )
 }
 
 /// The lines on a sealed plate.
 pub fn show<N: Typed>(
-    list: &Hashed<N>,
+    names: &[Row<N>],
+    triples: &[(u16, u16, u16)],
+    sizes: Sizes,
     bench: &Bench<N>,
     sealed: Sealed,
     out: &mut String,
 ) -> Result<(), AllocError>
     ensures { OnOk result (AddsLines (string_bytes out.old) (string_bytes out.new)) }
 {
-    levels(bench, list.sizes.r(), sealed.levels, out)?;
-    slots(list, &bench.lists.vertices, out)?;
+    levels(bench, sizes.r(), sealed.levels, out)?;
+    slots(names, triples, &bench.lists.vertices, sizes.n(), out)?;
     let len = sealed.len;
     let start = first(&bench.string, len.min(SHOWN));
     let (shown, hex) = (start.len(), hex::encode(*out.allocator(), start)?);
-    writeln!(out, "string of {len} bytes, the first {shown}: {hex}")
+    add_line(
+        out,
+        format_args!("string of {len} bytes, the first {shown}: {hex}"),
+    )
 }

@@ -5,6 +5,7 @@ use graph::rows::Row;
 use std::alloc::AllocError;
 use std::str::Lines;
 use typing::numbers::Reading;
+use typing::text::add_line;
 use typing::typed::{Typed, Unlisted};
 
 // Says why the line of this number has no name.
@@ -14,11 +15,11 @@ fn unlisted<N: Typed>(at: usize, reason: Unlisted, out: &mut String) -> Result<(
     match reason {
         Unlisted::Refused(fault) => {
             let (number, rule) = (fault.number(), N::rule());
-            writeln!(out, "line {at}: refused {number}: {rule}")
+            add_line(out, format_args!("line {at}: refused {number}: {rule}"))
         }
-        Unlisted::Unread => writeln!(
+        Unlisted::Unread => add_line(
             out,
-            "line {at}: not read: a name and a setting from 0 to 65535 are wanted"
+            format_args!("line {at}: not read: a name and a setting from 0 to 65535 are wanted"),
         ),
     }
 }

@@ -9,6 +9,7 @@ use hashing::tables::{TABLE_NUMBERS, fill};
 use hashing::triples::triple_of;
 use std::alloc::{AllocError, Global};
 use std::collections::BTreeMap;
+use typing::text::add_line;
 use typing::typed::Typed;
 
 /// The names of a list with their settings, and the triple of each.
@@ -43,7 +44,10 @@ impl<N: Typed> Hashed<N> {
         for row in &names {
             if let Some((h0, h1, h2)) = triple_of(&tables, sizes, &row.name) {
                 let (name, setting) = (row.name.to_string(heap)?, row.setting);
-                writeln!(out, "{name} setting {setting} triple {h0} {h1} {h2}")?;
+                add_line(
+                    out,
+                    format_args!("{name} setting {setting} triple {h0} {h1} {h2}"),
+                )?;
                 triples.push((h0, h1, h2))?;
             }
         }

@@ -2,7 +2,7 @@ ghost use Rattle.std.specs.Prelude.{OnOk, string_bytes};
 ghost use Rattle.typing.specs.Lines.{AddsLines};
 
 use std::alloc::{AllocError, Global};
-use typing::text::Numbers;
+use typing::text::{Numbers, add_line};
 use ways::fault::WayFault;
 use ways::stride::StrideWay;
 use ways::way::Way;
@@ -35,9 +35,9 @@ pub(crate) fn propose(n: u16, out: &mut String) -> Result<Option<StrideWay>, All
     for stride in first..=n {
         let way = StrideWay::new(n, start, stride);
         let judged = judged(*out.allocator(), way)?;
-        writeln!(
+        add_line(
             out,
-            "way of size {n}, start {start}, stride {stride}: {judged}"
+            format_args!("way of size {n}, start {start}, stride {stride}: {judged}"),
         )?;
         if let Ok(way) = way {
             return Ok(Some(way));

@@ -11,6 +11,7 @@ use std::alloc::{AllocError, Global};
 use std::str::Lines;
 use typing::kinds::NameKind;
 use typing::numbers::Reading;
+use typing::text::add_line;
 use typing::typed::Typed;
 use ways::stride::StrideWay;
 
@@ -35,7 +36,10 @@ fn report_on<N: Typed, R: Reading, E: Ending>(
 {
     let names = names_in::<N, R>(lines, out)?;
     let (kind, r, seed, count) = (N::number(), header.r, header.seed, names.len());
-    writeln!(out, "kind {kind}, {count} names, r {r}, seed {seed}")?;
+    add_line(
+        out,
+        format_args!("kind {kind}, {count} names, r {r}, seed {seed}"),
+    )?;
     match header.judged(count) {
         Ok((sizes, seed)) => {
             let list = Hashed::new(names, sizes, seed, out)?;
@@ -44,7 +48,7 @@ fn report_on<N: Typed, R: Reading, E: Ending>(
         }
         Err(fault) => {
             let refusal = fault.to_string(*out.allocator())?;
-            writeln!(out, "{refusal}")
+            add_line(out, refusal)
         }
     }
 }
@@ -60,7 +64,7 @@ pub fn report<R: Reading, E: Ending>(heap: Global, text: &str) -> Result<String,
             NameKind::PointNames => report_on::<PointName, R, E>(header, lines, &mut out)?,
             NameKind::DayCells => report_on::<DayCell, R, E>(header, lines, &mut out)?,
         },
-        Err(reason) => writeln!(out, "{reason}")?,
+        Err(reason) => add_line(&mut out, reason)?,
     }
     Ok(out)
 }

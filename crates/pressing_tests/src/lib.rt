@@ -4,11 +4,15 @@
 
 #[cfg(test)]
 mod tests {
+    use batch::bench::Bench;
+    use graph::rows::Row;
+    use names::point::PointName;
     use replaying::replay;
     use reporting::report::report;
     use std::alloc::Global;
     use std::process::Abort;
     use std::test::Fail;
+    use ways::stride::StrideWay;
 
     // Checks what each session is answered.
     fn sessions(rt: &impl Abort, heap: Global, table: &[(&str, &str)]) -> Result<(), Fail> {
@@ -136,5 +140,18 @@ mod tests {
                 ("1 1 1\n", "refused 15: no name\n"),
             ],
         )
+    }
+
+    // A bench has places for the tries of its levels; levels without one are fitted too.
+    #[test]
+    fn levels_without_a_place_for_their_tries(rt: HostRuntime) -> Result<(), Fail> {
+        let heap = rt.alloc();
+        let name = PointName::new(b"A")?;
+        let way = StrideWay::new(1, 0, 1)?;
+        let mut bench = Bench::new(heap, name)?;
+        bench.tries = Vec::new(heap);
+        let sealed = bench.press(&[Row { name, setting: 300 }], 1, 1, &way);
+        assert_eq!(rt; sealed.ok().map(|sealed| sealed.len), Some(47));
+        Ok(())
     }
 }

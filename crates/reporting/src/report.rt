@@ -9,6 +9,7 @@ use listing::report::{Ending, report as report_on};
 use runs::fault::PressFault;
 use std::alloc::{AllocError, Global};
 use typing::numbers::Capped;
+use typing::text::add_line;
 use typing::typed::Typed;
 use ways::stride::StrideWay;
 
@@ -22,8 +23,10 @@ fn stop<N: Typed>(list: &Hashed<N>, stopped: Stopped, out: &mut String) -> Resul
     };
     let stopped = stopped.to_string(*out.allocator())?;
     match clash {
-        Some((first, second)) => writeln!(out, "{stopped}: names {first} and {second}"),
-        None => writeln!(out, "{stopped}"),
+        Some((first, second)) => {
+            add_line(out, format_args!("{stopped}: names {first} and {second}"))
+        }
+        None => add_line(out, stopped),
     }
 }
 
@@ -42,7 +45,7 @@ impl Ending for Pressed {
         let mut bench = Bench::new(*out.allocator(), first.name)?;
         let (r, seed) = (list.sizes.r(), list.seed.value());
         match bench.press(&list.names, r, seed, &way) {
-            Ok(sealed) => show(list, &bench, sealed, out),
+            Ok(sealed) => show(&list.names, &list.triples, list.sizes, &bench, sealed, out),
             Err(stopped) => stop(list, stopped, out),
         }
     }

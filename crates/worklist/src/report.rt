@@ -5,6 +5,7 @@ use listing::hashed::Hashed;
 use listing::report::{Ending, report as report_on};
 use std::alloc::{AllocError, Global};
 use typing::numbers::Whole;
+use typing::text::add_line;
 use typing::typed::Typed;
 use ways::stride::StrideWay;
 
@@ -18,8 +19,10 @@ impl Ending for Clashes {
         out: &mut String,
     ) -> Result<(), AllocError> {
         match list.clash()? {
-            Some((first, second)) => writeln!(out, "names {first} and {second} clash"),
-            None => writeln!(out, "no two names clash"),
+            Some((first, second)) => {
+                add_line(out, format_args!("names {first} and {second} clash"))
+            }
+            None => add_line(out, "no two names clash"),
         }
     }
 }
